@@ -1,0 +1,187 @@
+//! A table in memory, at 16 bytes a row.
+ghost use Rattle.std.specs.Prelude.{◌≡◌, ◌<◌, ◌≤◌, [], ◌∷◌, ◌++◌, length, slice_get, IsTrue, ◌↔◌, IfOk, OnOk, OnErr};
+ghost use Rattle.cubit_base.specs.Answer.{answer};
+ghost use Rattle.cubit_base.specs.declared.table.TheConstants.{ROW_LIMIT};
+
+use crate::{Flag, Key, LineStatus, Memory, Predicate, Tuple};
+use std::alloc::Global;
+use std::marker::Model;
+
+/// A row in 16 bytes. A quantity of 0, which no tuple has, says that there is no tuple.
+#[derive(Drop)]
+struct StoredRow {
+    price: u32,
+    order: u32,
+    day: u16,
+    qty: u8,
+    disc: u8,
+    tax: u8,
+    line: u8,
+    flag: Flag,
+    status: LineStatus,
+}
+
+impl Model for StoredRow {
+    ghost use Rattle.cubit_base.specs.Table.{Row};
+
+    ghost Value = { Row };
+
+    ghost use Rattle.cubit_base.specs.StoredRow.{row_of, IsStoredRow};
+
+    ghost view = { row_of };
+
+    ghost invariant = { IsStoredRow };
+}
+
+impl StoredRow {
+    fn new(key: Key, tuple: Option<Tuple>) -> StoredRow
+        ensures { result ≡ (key, tuple) }
+    {
+        match tuple {
+            Some(t) => StoredRow {
+                price: t.price,
+                order: key.order,
+                day: t.day,
+                qty: t.qty,
+                disc: t.disc,
+                tax: t.tax,
+                line: key.line,
+                flag: t.flag,
+                status: t.status,
+            },
+            None => StoredRow {
+                price: 0,
+                order: key.order,
+                day: 0,
+                qty: 0,
+                disc: 0,
+                tax: 0,
+                line: key.line,
+                flag: Flag::A,
+                status: LineStatus::F,
+            },
+        }
+    }
+
+    fn row(&self) -> (Key, Option<Tuple>)
+        ensures { result ≡ self.now }
+    {
+        let key = Key {
+            order: self.order,
+            line: self.line,
+        };
+        if self.qty == 0 {
+            return (key, None);
+        }
+        let tuple = Tuple {
+            price: self.price,
+            day: self.day,
+            qty: self.qty,
+            disc: self.disc,
+            tax: self.tax,
+            flag: self.flag,
+            status: self.status,
+        };
+        (key, Some(tuple))
+    }
+}
+
+/// The most rows that a table may have.
+pub const ROW_LIMIT: u32 = 16_777_216;
+
+/// The rows of a table, numbered from 0; contracts see them as a list.
+#[derive(Drop)]
+pub struct Table {
+    rows: Vec<StoredRow>,
+}
+
+impl Model for Table {
+    ghost use Rattle.std.specs.Prelude.{List, length, ◌≤◌};
+    ghost use Rattle.cubit_base.specs.Table.{Row};
+    ghost use Rattle.cubit_base.specs.declared.table.TheConstants.{ROW_LIMIT};
+
+    ghost Value = { List Row };
+
+    ghost view = { λ t. t.rows.items };
+
+    ghost invariant = { λ t. length t.rows.items ≤ ROW_LIMIT };
+}
+
+/// How many rows matched, and the sum of price times discount over them in units of 0.0001.
+#[derive(Clone, Copy, Debug, PartialEq, Eq)]
+pub struct Totals {
+    pub count: u32,
+    pub sum: u64,
+}
+
+impl Table {
+    /// The empty table. It takes no memory.
+    pub fn new(alloc: Global) -> Table
+        ensures { result ≡ [] }
+    {
+        Table {
+            rows: Vec::new(alloc),
+        }
+    }
+
+    /// The empty table, with room for that many rows.
+    pub fn with_capacity(alloc: Global, rows: u32) -> Result<Table, Memory>
+        ensures { IfOk result (λ table. table ≡ []) }
+    {
+        Ok(Table {
+            rows: Vec::with_capacity(alloc, rows as usize)?,
+        })
+    }
+
+    /// The number of rows.
+    pub fn len(&self) -> u32
+        ensures value { result ≡ length self.now }
+        ensures within { length self.now ≤ ROW_LIMIT }
+    {
+        self.rows.len() as u32
+    }
+
+    /// Whether there is no row.
+    pub fn is_empty(&self) -> bool
+        ensures { IsTrue result ↔ (self.now ≡ []) }
+    {
+        self.rows.is_empty()
+    }
+
+    /// Puts a row at the end.
+    pub fn push(&mut self, key: Key, tuple: Option<Tuple>) -> Result<(), Memory>
+        requires { length self.old < ROW_LIMIT }
+        ensures ok { OnOk result (self.new ≡ self.old ++ (key, tuple) ∷ []) }
+        ensures err { OnErr result (self.new ≡ self.old) }
+    {
+        self.rows.push(StoredRow::new(key, tuple))?;
+        Ok(())
+    }
+
+    /// The row with this number, or none past the end.
+    pub fn row(&self, n: u32) -> Option<(Key, Option<Tuple>)>
+        ensures { result ≡ slice_get self.now n }
+    {
+        match self.rows.get(n as usize) {
+            Some(stored) => Some(stored.row()),
+            None => None,
+        }
+    }
+
+    /// The answer of the predicate by one pass over all rows.
+    pub fn totals(&self, predicate: &Predicate) -> Totals
+        ensures count { result.count ≡ (answer self.now predicate.now).count }
+        ensures sum { result.sum ≡ (answer self.now predicate.now).sum }
+    {
+        let mut totals = Totals { count: 0, sum: 0 };
+        for stored in &self.rows {
+            if let (_, Some(tuple)) = stored.row() {
+                if predicate.matches(&tuple) {
+                    totals.count += 1;
+                    totals.sum += tuple.amount();
+                }
+            }
+        }
+        totals
+    }
+}

@@ -1,0 +1,14 @@
+//! Files and sinks whose contracts say what was read, what was taken, and when a call may fail.
+//!
+//! Code that reads or writes is generic over `Files` and `Sink`. `MemoryFiles` and `MemorySink` tell everything that
+//! they hold; `DiskFiles` and `StdSink` stand for the real outside, and tell only how often it failed.
+#![tactic(auto)]
+
+mod files;
+mod sink;
+mod whole;
+
+pub use files::{Failed, Files};
+pub use sink::Sink;
+pub use std::alloc::AllocError as Memory;
+pub use whole::{FILE_LIMIT, ReadStop, read_all, write_all};

@@ -1,0 +1,60 @@
+//! Reading a file whole, and writing a text whole.
+ghost use Rattle.std.specs.Prelude.{◌≡◌, ◌⊎◌, ◌<◌, ◌≤◌, ℕ, List, Err, length, vec_len, IsErr, IsErrOf, IfOk, OnOk, OnErr};
+ghost use Rattle.cubit_io.specs.Held.{IsMissing, Holds, HoldsWhereTold, HasWhereTold};
+ghost use Rattle.cubit_io.specs.Pieces.{GrewBy, GrewByPrefix};
+ghost use Rattle.cubit_io.specs.Count.{Rose};
+ghost use Rattle.cubit_io.specs.declared.whole.TheConstants.{FILE_LIMIT};
+
+use crate::{Failed, Files, Memory, Sink};
+use std::alloc::Global;
+
+/// The most bytes that a file may have.
+pub const FILE_LIMIT: usize = 1_073_741_824;
+
+/// Why a file was not read.
+#[derive(Clone, Copy, Debug, PartialEq, Eq)]
+pub enum ReadStop {
+    /// The outside failed, or no file has this name.
+    Fault = 1,
+    /// The file has more than `FILE_LIMIT` bytes.
+    TooLong = 2,
+    /// Memory ran out.
+    Memory = 3,
+}
+
+/// All bytes of a file.
+pub fn read_all<F: Files>(
+    alloc: Global,
+    files: &mut F,
+    name: &str,
+) -> Result<Vec<u8>, ReadStop>
+    ensures whole { IfOk result (λ bytes. HoldsWhereTold (F.held files.old) name.now bytes.items) }
+    ensures within { IfOk result (λ bytes. vec_len bytes ≤ FILE_LIMIT) }
+
+    ensures fault { IsErrOf result ReadStop.Fault
+        → IsMissing (F.held files.old) name.now ⊎ Rose (F.faults files.old) (F.faults files.new) }
+    ensures missing { IsMissing (F.held files.old) name.now
+        → IsErrOf result ReadStop.Fault ⊎ IsErrOf result ReadStop.Memory }
+    ensures too_long { IsErrOf result ReadStop.TooLong
+        → HasWhereTold (F.held files.old) name.now (λ bytes. FILE_LIMIT < length bytes) }
+    ensures longer { (bytes : List ℕ) → Holds (F.held files.old) name.now bytes → FILE_LIMIT < length bytes → IsErr result }
+
+    ensures held { F.held files.new ≡ F.held files.old }
+    ensures counted { F.faults files.old ≤ F.faults files.new }
+{
+    Err(ReadStop::Memory)
+}
+
+/// Writes all the bytes, in as many pieces as the sink takes. It takes no memory.
+pub fn write_all<S: Sink>(sink: &mut S, bytes: &[u8]) -> Result<(), Failed>
+    ensures whole { OnOk result (GrewBy (S.taken sink.old) (S.taken sink.new) bytes.now) }
+    ensures part { OnErr result (GrewByPrefix (S.taken sink.old) (S.taken sink.new) bytes.now) }
+    ensures cause { OnErr result (Rose (S.faults sink.old) (S.faults sink.new)) }
+    ensures counted { S.faults sink.old ≤ S.faults sink.new }
+{
+    let mut done = 0;
+    while done < bytes.len() {
+        done += sink.write(&bytes[done..])?;
+    }
+    Ok(())
+}

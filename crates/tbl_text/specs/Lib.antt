@@ -1,0 +1,4 @@
+pub mod Base
+pub mod Field
+pub mod Line
+pub mod Lines

