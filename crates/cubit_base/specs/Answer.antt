@@ -28,7 +28,7 @@ pub record Answer : Type 0 where
 
 abbrev pub answer : List Row → Predicate → Answer
 answer table p = record {
-    rows = map (λ r. r.0) (matching table p);
-    count = length (matching table p);
-    sum = sum_by (λ r. row_amount r.1) (matching table p)
+  rows = map (λ r. r.0) (matching table p);
+  count = length (matching table p);
+  sum = sum_by (λ r. row_amount r.1) (matching table p);
 }

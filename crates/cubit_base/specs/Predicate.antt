@@ -23,9 +23,9 @@ matches p t =
 -- the form of TPC-H's query 6 (clause 2.4.6): shipped within the year, a discount at most 0.01 off, a lower quantity
 abbrev pub q6_predicate : ℕ → ℕ → ℕ → Predicate
 q6_predicate year disc qty = record {
-    ship = Some (record { lo = day_number year 1 1; hi = day_number year 12 31 });
-    disc = Some (record { lo = disc - 1; hi = min 10 (disc + 1) });
-    qty = Some (record { lo = 1; hi = qty - 1 });
-    flag = None;
-    status = None
+  ship = Some (record { lo = day_number year 1 1; hi = day_number year 12 31 });
+  disc = Some (record { lo = disc - 1; hi = min 10 (disc + 1) });
+  qty = Some (record { lo = 1; hi = qty - 1 });
+  flag = None;
+  status = None;
 }

@@ -1,7 +1,7 @@
 //! Days of the calendar as numbers from 1992-01-01.
-ghost use Rattle.std.specs.Prelude.{◌≡◌, ◌+◌, ◌≤◌, IfSome, pos};
-ghost use Rattle.jiff_core.specs.Calendar.{day_count, day_of_year};
-ghost use Rattle.cubit_base.specs.Day.{day_number, day_value};
+ghost use Rattle.std.specs.Prelude.{◌≡◌, ◌⊎◌, ◌+◌, ◌≤◌, IfSome, pos};
+ghost use Rattle.jiff_core.specs.Calendar.{day_count};
+ghost use Rattle.cubit_base.specs.Day.{day_value};
 
 use jiff_core::civil::Date;
 
@@ -20,11 +20,11 @@ pub fn day_of(year: u16, month: u8, day: u8) -> Option<u16>
 }
 
 /// The number of 1 January of a year from 1992 to 1998.
+#[tactic(auto, using(crate::proofs::Years::begins_1992, crate::proofs::Years::begins_1993, crate::proofs::Years::begins_1994, crate::proofs::Years::begins_1995, crate::proofs::Years::begins_1996, crate::proofs::Years::begins_1997, crate::proofs::Years::begins_1998))]
 pub(crate) fn first_day_of(year: u16) -> u16
     requires { (1992 ≤ year) × (year ≤ 1998) }
-    ensures value { result ≡ day_number year 1 1 }
     ensures start { result + 4379988 ≡ day_count (pos year) 1 1 }
-    ensures within { result ≤ 2192 }
+    ensures within { (result ≤ 1827) ⊎ ((year ≡ 1998) × (result ≤ 2192)) }
 {
     match year {
         1992 => 0,
@@ -35,17 +35,5 @@ pub(crate) fn first_day_of(year: u16) -> u16
         1997 => 1827,
         1998 => 2192,
         _ => unreachable!(),
-    }
-}
-
-/// The number of 31 December of a year from 1992 to 1998.
-pub(crate) fn last_day_of(year: u16) -> u16
-    requires { (1992 ≤ year) × (year ≤ 1998) }
-    ensures { result ≡ day_number year 12 31 }
-{
-    if year == 1992 || year == 1996 {
-        first_day_of(year) + 365
-    } else {
-        first_day_of(year) + 364
     }
 }

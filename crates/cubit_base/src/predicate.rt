@@ -1,9 +1,9 @@
 //! Predicates: a closed range for each column that a query restricts.
 ghost use Rattle.std.specs.Prelude.{◌≡◌, ◌≤◌};
+ghost use Rattle.cubit_base.specs.Day.{day_number};
 ghost use Rattle.cubit_base.specs.Predicate.{in_range, selects, matches, q6_predicate};
 
-use crate::Tuple;
-use crate::date::{first_day_of, last_day_of};
+use crate::{Tuple, day_of};
 
 /// The numbers from `lo` to `hi`, both included; none where `lo` is above `hi`.
 #[derive(Clone, Copy, Debug, PartialEq, Eq)]
@@ -45,6 +45,17 @@ fn has(range: &Option<Range>, n: u16) -> bool
     }
 }
 
+// From 1 January to 31 December.
+fn days_of(year: u16) -> Range
+    requires { (1992 ≤ year) × (year ≤ 1998) }
+    ensures { result ≡ record { lo = day_number year 1 1; hi = day_number year 12 31 } }
+{
+    Range {
+        lo: day_of(year, 1, 1).unwrap(),
+        hi: day_of(year, 12, 31).unwrap(),
+    }
+}
+
 impl Predicate {
     /// The predicate of TPC-H's query 6 (clause 2.4.6): shipped within the year, a discount of at most a hundredth
     /// from `disc`, and fewer than `qty` pieces.
@@ -55,10 +66,7 @@ impl Predicate {
         ensures { result ≡ q6_predicate year disc qty }
     {
         Predicate {
-            ship: Some(Range {
-                lo: first_day_of(year),
-                hi: last_day_of(year),
-            }),
+            ship: Some(days_of(year)),
             disc: Some(Range {
                 lo: u16::from(disc.saturating_sub(1)),
                 hi: u16::from((disc + 1).min(10)),
