@@ -1,4 +1,5 @@
 -- Lines and fields are cuts of the whole list of bytes.
+use Rattle.std.specs.List.{position_or_len}
 use Rattle.std.specs.Prelude.{ℕ, ◌-◌, ◌==◌, List, [], ◌∷◌, length, map, take, slice_index, if◌then◌else◌}
 
 -- the piece goes on at its front with this byte; where there is none, it is the first
@@ -15,6 +16,10 @@ pieces separator (b ∷ bytes) =
 -- the line without the one CR that may end it
 abbrev pub without_cr : List ℕ → List ℕ
 without_cr line = if slice_index line (length line - 1) == 13 then take (length line - 1) line else line
+
+-- the place of the first LF, or the number of bytes
+abbrev pub line_end : List ℕ → ℕ
+line_end bytes = position_or_len (λ b. b == 10) bytes
 
 -- the lines of a file: LF ends a line, and the last may lack it
 abbrev pub lines_of : List ℕ → List (List ℕ)
