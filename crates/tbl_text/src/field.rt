@@ -26,7 +26,8 @@ pub fn money_of(field: &[u8]) -> Option<u64>
 
 /// The day number of a date from 1992-01-01 to 1998-12-31, spelled YYYY-MM-DD.
 pub fn date_field(field: &[u8]) -> Option<u16>
-    ensures { result ≡ date_value field.now }
+    ensures value { result ≡ date_value field.now }
+    ensures within { IfSome result (λ n. n ≤ 2556) }
 {
     match field {
         [a, b, c, d, b'-', e, f, b'-', g, h] => {
