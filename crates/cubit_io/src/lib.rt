@@ -4,11 +4,15 @@
 //! they hold; `DiskFiles` and `StdSink` stand for the real outside, and tell only how often it failed.
 #![tactic(auto)]
 
+mod count;
 mod files;
+mod memory_sink;
+mod schedule;
 mod sink;
 mod whole;
 
 pub use files::{Failed, Files};
+pub use memory_sink::MemorySink;
 pub use sink::Sink;
 pub use std::alloc::AllocError as Memory;
 pub use whole::{FILE_LIMIT, ReadStop, read_all, write_all};
