@@ -3,7 +3,7 @@ use Rattle.std.specs.Prelude.{ℕ, Bool, true, false, not, ◌&&◌, ◌==◌, n
 use Rattle.tbl_text.specs.Field.{integer_value, money_value, quantity_value}
 use Rattle.cubit_base.specs.Predicate.{q6_predicate}
 use Rattle.cubit_base.specs.declared.predicate.Predicate.{Predicate}
-use Rattle.cubit_cli.specs.declared.words.Query.{Query}
+use Rattle.cubit_cli.specs.declared.query.Query.{Query}
 
 -- the base file's name, the year, the discount in hundredths, and the quantity
 pub record QueryValue : Type 0 where
@@ -35,7 +35,7 @@ abbrev pub query_of : List (List ℕ) → Option QueryValue
 query_of (command ∷ base ∷ year ∷ discount ∷ quantity ∷ []) =
     if bytes_eq command (codes "q6") && is_base base
     then query_of_numbers base (number_within 1992 1998 (integer_value year))
-        (number_within 0 10 (money_value discount)) (number_within 1 51 (quantity_value quantity))
+    (number_within 0 10 (money_value discount)) (number_within 1 51 (quantity_value quantity))
     else None
 query_of words = None
 

@@ -59,7 +59,7 @@ fn detail_of(fault: LineFault) -> Detail
 }
 
 /// The refusal of a file with this fault.
-pub(crate) fn refusal(fault: BaseFault) -> Refusal
+pub(crate) fn refusal_from(fault: BaseFault) -> Refusal
     ensures { result ≡ refusal_of fault }
 {
     match fault {

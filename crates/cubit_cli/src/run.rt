@@ -1,4 +1,0 @@
-//! The top call.
-use crate::Status;
-
-pub fn run() -> Status { Status::Done }
