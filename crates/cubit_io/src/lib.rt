@@ -6,12 +6,14 @@
 
 mod count;
 mod files;
+mod memory_files;
 mod memory_sink;
 mod schedule;
 mod sink;
 mod whole;
 
 pub use files::{Failed, Files};
+pub use memory_files::MemoryFiles;
 pub use memory_sink::MemorySink;
 pub use sink::Sink;
 pub use std::alloc::AllocError as Memory;
