@@ -7,8 +7,8 @@ use Rattle.cubit_io.specs.Held.{Held}
 use Rattle.cubit_io.specs.MemoryFile.{MemoryFileValue}
 use Rattle.cubit_io.specs.declared.memory_files.Place.{Place}
 
--- the files, of which no two have one name; what is left of the chosen one, and nothing where none is chosen; the
--- numbers of the calls that are to fail, from 1; how many calls there were; and how many of them failed by that list
+-- the files; what is left of the chosen one, and nothing where none is chosen; the numbers of the calls that are to
+-- fail, from 1; how many calls there were; and how many faults
 pub record MemoryFilesValue : Type 0 where
   pub files : List MemoryFileValue
   pub rest : List ℕ

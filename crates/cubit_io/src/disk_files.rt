@@ -90,3 +90,28 @@ impl<R: HostFiles> Files for DiskFiles<R> {
         }
     }
 }
+
+#[cfg(test)]
+mod tests {
+    use super::*;
+    use crate::{ReadStop, read_all};
+    use std::test::Fail;
+    use std::{env, process};
+
+    #[test]
+    fn a_file_and_none(rt: HostRuntime) -> Result<(), Fail> {
+        let alloc = rt.alloc();
+        let folder = env::temp_dir(&rt)?;
+        let id = process::id(rt.process());
+        let name = format!(in alloc; "{}/cubit_io_{id}", folder.display())?;
+        fs::write(&rt, name.as_str(), "a line\n")?;
+        let mut files = DiskFiles::make(&rt);
+        let bytes = read_all(alloc, &mut files, name.as_str());
+        fs::remove_file(&rt, name.as_str())?;
+        assert_eq!(rt; bytes?.as_slice(), b"a line\n".as_slice());
+        assert_eq!(rt; files.faults, 0);
+        assert_eq!(rt; read_all(alloc, &mut files, name.as_str()).err(), Some(ReadStop::Fault));
+        assert_eq!(rt; files.faults, 1);
+        Ok(())
+    }
+}

@@ -158,6 +158,7 @@ impl Files for MemoryFiles {
         ensures not_listed { OnErr result (IsMissing (held_of self.old) name.now ⊎ Contains self.new.fails self.new.calls) }
         ensures number { self.new.calls ≡ raised self.old.calls }
         ensures fails { self.new.fails ≡ self.old.fails }
+        ensures quiet { OnOk result (self.new.faults ≡ self.old.faults) }
         ensures no_more { self.new.faults ≤ raised self.old.faults }
     {
         self.place = None;
@@ -173,8 +174,8 @@ impl Files for MemoryFiles {
         Ok(())
     }
 
-    #[tactic(auto, using(crate::proofs::Names::bytes_at_is))]
     /// Fills the buffer as far as bytes are left. It fails where the call is listed.
+    #[tactic(auto, using(crate::proofs::Names::bytes_at_is))]
     fn read(&mut self, buffer: &mut [u8]) -> Result<usize, Failed>
         ensures within { IfOk result (λ n. n ≤ length buffer.old) }
         ensures given { IfOk result (λ n. Gives (Some self.old.rest) (take n buffer.new) (Some self.new.rest)) }
@@ -184,6 +185,7 @@ impl Files for MemoryFiles {
         ensures held { held_of self.new ≡ held_of self.old }
         ensures counted { self.old.faults ≤ self.new.faults }
 
+        ensures count { IfOk result (λ n. n ≡ min (length self.old.rest) (length buffer.old)) }
         ensures listed { Contains self.new.fails self.new.calls → IsErr result }
         ensures not_listed { OnErr result (Contains self.new.fails self.new.calls) }
         ensures number { self.new.calls ≡ raised self.old.calls }
@@ -200,5 +202,37 @@ impl Files for MemoryFiles {
         let count = self.files[place.file].copy_from(place.read, buffer);
         place.read += count;
         Ok(count)
+    }
+}
+
+#[cfg(test)]
+mod tests {
+    use super::*;
+    use crate::{ReadStop, read_all};
+    use std::test::Fail;
+
+    #[test]
+    fn listed_calls_fail(rt: HostRuntime) -> Result<(), Fail> {
+        let alloc = rt.alloc();
+        let none: [u32; 0] = [];
+        for (fails, name, stop, faults) in [
+            (none.as_slice(), "kept", None, 0),
+            (none.as_slice(), "missing", Some(ReadStop::Fault), 0),
+            ([1].as_slice(), "missing", Some(ReadStop::Fault), 0),
+            ([1].as_slice(), "kept", Some(ReadStop::Fault), 1),
+            ([2].as_slice(), "kept", Some(ReadStop::Fault), 1),
+            ([3].as_slice(), "kept", Some(ReadStop::Fault), 1),
+            ([4].as_slice(), "kept", None, 0),
+        ] {
+            let mut files = MemoryFiles::make(alloc, fails.to_vec(alloc)?);
+            files.keep(alloc, "kept", b"old")?;
+            files.keep(alloc, "kept", b"bytes")?;
+            match read_all(alloc, &mut files, name) {
+                Ok(bytes) => assert_eq!(rt; bytes.as_slice(), b"bytes".as_slice()),
+                Err(got) => assert_eq!(rt; Some(got), stop, "{name} with {fails:?}"),
+            }
+            assert_eq!(rt; files.faults, faults, "{name} with {fails:?}");
+        }
+        Ok(())
     }
 }

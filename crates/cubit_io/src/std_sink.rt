@@ -78,3 +78,18 @@ impl Sink for StdSink {
         }
     }
 }
+
+#[cfg(test)]
+mod tests {
+    use super::*;
+    use crate::write_all;
+
+    #[test]
+    fn a_line_goes_out(rt: HostRuntime) {
+        let mut out = StdSink::out(&rt);
+        assert_eq!(rt; write_all(&mut out, b"to standard output\n"), Ok(()));
+        let mut err = StdSink::err(&rt);
+        assert_eq!(rt; write_all(&mut err, b"to standard error\n"), Ok(()));
+        assert_eq!(rt; (out.faults, err.faults), (0, 0));
+    }
+}
