@@ -7,6 +7,8 @@ mod query;
 mod refusal;
 mod report;
 mod status;
+#[cfg(test)]
+mod tests;
 mod words;
 
 pub use command::run;

@@ -77,3 +77,21 @@ impl Sink for MemorySink {
         Ok(bytes.len())
     }
 }
+
+#[cfg(test)]
+mod tests {
+    use super::*;
+    use crate::write_all;
+    use std::test::Fail;
+
+    #[test]
+    fn a_listed_call_fails(rt: HostRuntime) -> Result<(), Fail> {
+        let alloc = rt.alloc();
+        let mut sink = MemorySink::make(alloc, [1].to_vec(alloc)?);
+        assert_eq!(rt; write_all(&mut sink, b"lost"), Err(Failed));
+        assert_eq!(rt; sink.faults, 1);
+        write_all(&mut sink, b"a line\n")?;
+        assert_eq!(rt; sink.bytes(), b"a line\n".as_slice());
+        Ok(())
+    }
+}

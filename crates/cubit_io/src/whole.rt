@@ -77,8 +77,8 @@ pub fn read_all<F: Files>(
     }
 }
 
-#[tactic(auto, using(crate::proofs::Writing::grew_by_next))]
 /// Writes all the bytes, in as many pieces as the sink takes. It takes no memory.
+#[tactic(auto, using(crate::proofs::Writing::grew_by_next))]
 pub fn write_all<S: Sink>(sink: &mut S, bytes: &[u8]) -> Result<(), Failed>
     ensures whole { OnOk result (GrewBy (S.taken sink.old) (S.taken sink.new) bytes.now) }
     ensures part { OnErr result (GrewByPrefix (S.taken sink.old) (S.taken sink.new) bytes.now) }
@@ -92,3 +92,6 @@ pub fn write_all<S: Sink>(sink: &mut S, bytes: &[u8]) -> Result<(), Failed>
     }
     Ok(())
 }
+
+#[cfg(test)]
+mod tests;

@@ -1,0 +1,95 @@
+//! Standard output and standard error as sinks. Each piece goes out before the call returns, so that its count sees
+//! a failure.
+ghost use Rattle.std.specs.Prelude.{◌≡◌, ◌<◌, ◌≤◌, ℕ, List, Option, None, length, take, IfOk, OnErr, is_ok, if◌then◌else◌};
+ghost use Rattle.cubit_io.specs.Count.{Rose, raised};
+ghost use Rattle.cubit_io.specs.Pieces.{GrewBy};
+
+use crate::count::raised;
+use crate::{Failed, Sink};
+use std::io::{Stderr, Stdout, Write};
+use std::marker::Model;
+
+/// One of the two streams of the process.
+#[derive(Clone, Copy)]
+enum Stream {
+    Out(Stdout),
+    Err(Stderr),
+}
+
+/// Standard output or standard error. What was taken is not told; contracts see how often it failed.
+#[derive(Drop)]
+pub struct StdSink {
+    stream: Stream,
+    faults: u64,
+}
+
+impl Model for StdSink {
+    ghost Value = { ℕ };
+
+    ghost view = { λ s. s.faults };
+}
+
+impl StdSink {
+    /// Standard output.
+    pub fn out(rt: &HostRuntime) -> StdSink
+        ensures { result ≡ 0 }
+    {
+        StdSink {
+            stream: Stream::Out(rt.stdout()),
+            faults: 0,
+        }
+    }
+
+    /// Standard error.
+    pub fn err(rt: &HostRuntime) -> StdSink
+        ensures { result ≡ 0 }
+    {
+        StdSink {
+            stream: Stream::Err(rt.stderr()),
+            faults: 0,
+        }
+    }
+}
+
+impl Sink for StdSink {
+    ghost taken = { λ _. None };
+
+    ghost faults = { λ s. s };
+
+    /// Writes without a buffer. It fails too where the outside took nothing of bytes that are there.
+    fn write(&mut self, bytes: &[u8]) -> Result<usize, Failed>
+        ensures within { IfOk result (λ n. n ≤ length bytes.now) }
+        ensures progress { 0 < length bytes.now → IfOk result (λ n. 0 < n) }
+        ensures cause { OnErr result (Rose self.old self.new) }
+        ensures counted { self.old ≤ self.new }
+
+        ensures faults { self.new ≡ (if is_ok result then self.old else raised self.old) }
+    {
+        let written = match &mut self.stream {
+            Stream::Out(stream) => stream.write(bytes),
+            Stream::Err(stream) => stream.write(bytes),
+        };
+        match written {
+            Ok(count) if count > 0 || bytes.is_empty() => Ok(count),
+            _ => {
+                self.faults = raised(self.faults);
+                Err(Failed)
+            }
+        }
+    }
+}
+
+#[cfg(test)]
+mod tests {
+    use super::*;
+    use crate::write_all;
+
+    #[test]
+    fn a_line_goes_out(rt: HostRuntime) {
+        let mut out = StdSink::out(&rt);
+        assert_eq!(rt; write_all(&mut out, b"to standard output\n"), Ok(()));
+        let mut err = StdSink::err(&rt);
+        assert_eq!(rt; write_all(&mut err, b"to standard error\n"), Ok(()));
+        assert_eq!(rt; (out.faults, err.faults), (0, 0));
+    }
+}
