@@ -1,1 +1,4 @@
+pub mod Bars
+pub mod Dates
+pub mod Digits
 mod WorkedRows

@@ -1,5 +1,5 @@
 -- What a field says, where it is spelled as the format wants.
-use Rattle.std.specs.Prelude.{ℕ, ◌+◌, ◌-◌, ◌*◌, ◌==◌, Bool, ◌&&◌, true, false, nat_le, List, [], ◌∷◌, length, drop, take_while, Option, Some, None, option_map, if◌then◌else◌}
+use Rattle.std.specs.Prelude.{◌≡◌, ℕ, ◌+◌, ◌-◌, ◌*◌, ◌==◌, Bool, ◌&&◌, true, false, nat_le, List, [], ◌∷◌, length, drop, take_while, Option, Some, None, option_map, if◌then◌else◌}
 use Rattle.std.specs.List.{list_all}
 use Rattle.cubit_base.specs.declared.tuple.Flag.{Flag}
 use Rattle.cubit_base.specs.declared.tuple.Flag.TheVariants.{A, N, R}
@@ -18,6 +18,12 @@ spelled_after n (b ∷ digits) = spelled_after (n * 10 + (b - 48)) digits
 
 abbrev pub spelled : List ℕ → ℕ
 spelled digits = spelled_after 0 digits
+
+-- the number that two digits spell
+pub record IsPair (tens ones n : ℕ) : Type 0 where
+  pub tens_digit : is_digit tens ≡ true
+  pub ones_digit : is_digit ones ≡ true
+  pub value : n ≡ (tens - 48) * 10 + (ones - 48)
 
 -- an integer: 1 to 10 digits, leading zeros among them
 abbrev pub integer_value : List ℕ → Option ℕ

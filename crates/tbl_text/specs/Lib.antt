@@ -1,4 +1,5 @@
 pub mod Base
 pub mod Field
+pub mod Fields
 pub mod Line
 pub mod Lines

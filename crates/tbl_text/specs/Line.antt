@@ -25,24 +25,26 @@ text field = if is_text field then Ok tt else Err fault.Text
 abbrev pub fields_value : List (List ℕ) → Result (KeyValue × TupleValue) LineFault
 fields_value (orderkey ∷ partkey ∷ suppkey ∷ linenumber ∷ quantity ∷ extendedprice ∷ discount ∷ tax ∷ returnflag
     ∷ linestatus ∷ shipdate ∷ commitdate ∷ receiptdate ∷ shipinstruct ∷ shipmode ∷ comment ∷ []) = do
-  order ← within 1 4_294_967_295 (integer_value orderkey) fault.Order
-  _ ← text partkey
-  _ ← text suppkey
-  line ← within 1 7 (integer_value linenumber) fault.Line
-  qty ← within 1 50 (quantity_value quantity) fault.Quantity
-  price ← within 0 99_999_999 (money_value extendedprice) fault.Price
-  disc ← within 0 10 (money_value discount) fault.Discount
-  tax_ ← within 0 8 (money_value tax) fault.Tax
-  flag ← ok_or (flag_value returnflag) fault.Flag
-  status ← ok_or (status_value linestatus) fault.Status
-  day ← ok_or (date_value shipdate) fault.Date
-  _ ← text commitdate
-  _ ← text receiptdate
-  _ ← text shipinstruct
-  _ ← text shipmode
-  _ ← text comment
-  Ok (record { order = order; line = line },
-      record { price = price; day = day; qty = qty; disc = disc; tax = tax_; flag = flag; status = status })
+      order ← within 1 4_294_967_295 (integer_value orderkey) fault.Order
+      _ ← text partkey
+      _ ← text suppkey
+      line ← within 1 7 (integer_value linenumber) fault.Line
+      qty ← within 1 50 (quantity_value quantity) fault.Quantity
+      price ← within 0 99_999_999 (money_value extendedprice) fault.Price
+      disc ← within 0 10 (money_value discount) fault.Discount
+      tax_ ← within 0 8 (money_value tax) fault.Tax
+      flag ← ok_or (flag_value returnflag) fault.Flag
+      status ← ok_or (status_value linestatus) fault.Status
+      day ← ok_or (date_value shipdate) fault.Date
+      _ ← text commitdate
+      _ ← text receiptdate
+      _ ← text shipinstruct
+      _ ← text shipmode
+      _ ← text comment
+      Ok (
+        record { order = order; line = line },
+        record { price = price; day = day; qty = qty; disc = disc; tax = tax_; flag = flag; status = status },
+      )
 fields_value fields = Err (fault.FieldCount (length fields))
 
 -- the key and the tuple of a line, or its first fault

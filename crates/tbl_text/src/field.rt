@@ -1,24 +1,142 @@
 //! Readers of single fields.
-ghost use Rattle.std.specs.Prelude.{◌≡◌};
-ghost use Rattle.tbl_text.specs.Field.{integer_value, money_value, date_value};
+ghost use Rattle.std.specs.Prelude.{◌≡◌, ◌<◌, ◌≤◌, ◌^◌, ◌&&◌, false, IfSome, MatchOption, length};
+ghost use Rattle.std.specs.List.{AllPass, prefix_len};
+ghost use Rattle.tbl_text.specs.Field.{is_digit, IsPair, spelled, leading_digits, after_digits, integer_value, hundredths_value, money_value, quantity_value, date_value, is_text, flag_value, status_value};
+
+use cubit_base::{Flag, LineStatus, day_of};
 
 /// An integer: 1 to 10 decimal digits, leading zeros among them.
 pub fn integer_of(field: &[u8]) -> Option<u64>
     ensures { result ≡ integer_value field.now }
 {
-    None
+    match leading_integer(field)? {
+        (number, []) => Some(number),
+        _ => None,
+    }
 }
 
 /// Money in hundredths: 1 to 10 digits, then optionally a point and one or two digits.
 pub fn money_of(field: &[u8]) -> Option<u64>
     ensures { result ≡ money_value field.now }
 {
-    None
+    let (whole, rest) = leading_integer(field)?;
+    let hundredths = hundredths_of(rest)?;
+    Some(whole * 100 + u64::from(hundredths))
 }
 
 /// The day number of a date from 1992-01-01 to 1998-12-31, spelled YYYY-MM-DD.
 pub fn date_field(field: &[u8]) -> Option<u16>
-    ensures { result ≡ date_value field.now }
+    ensures value { result ≡ date_value field.now }
+    ensures within { IfSome result (λ n. n ≤ 2556) }
 {
-    None
+    match field {
+        [a, b, c, d, b'-', e, f, b'-', g, h] => {
+            let century = pair_of(*a, *b)?;
+            let year = pair_of(*c, *d)?;
+            let month = pair_of(*e, *f)?;
+            let day = pair_of(*g, *h)?;
+            day_of(u16::from(century) * 100 + u16::from(year), month, day)
+        }
+        _ => None,
+    }
+}
+
+// An integer, then optionally `.0` or `.00`.
+pub(crate) fn quantity_of(field: &[u8]) -> Option<u64>
+    ensures { result ≡ quantity_value field.now }
+{
+    match leading_integer(field)? {
+        (number, [] | [b'.', b'0'] | [b'.', b'0', b'0']) => Some(number),
+        _ => None,
+    }
+}
+
+pub(crate) fn is_text(field: &[u8]) -> bool
+    ensures { result ≡ is_text field.now }
+{
+    field.iter().all(|b| (b' '..=b'~').contains(b))
+}
+
+pub(crate) fn flag_of(field: &[u8]) -> Option<Flag>
+    ensures { result ≡ flag_value field.now }
+{
+    match field {
+        b"A" => Some(Flag::A),
+        b"N" => Some(Flag::N),
+        b"R" => Some(Flag::R),
+        _ => None,
+    }
+}
+
+pub(crate) fn status_of(field: &[u8]) -> Option<LineStatus>
+    ensures { result ≡ status_value field.now }
+{
+    match field {
+        b"F" => Some(LineStatus::F),
+        b"O" => Some(LineStatus::O),
+        _ => None,
+    }
+}
+
+// The integer at the front, and what follows its digits.
+fn leading_integer(bytes: &[u8]) -> Option<(u64, &[u8])>
+    ensures value { MatchOption result
+        (integer_value (leading_digits bytes.now) ≡ None)
+        (λ r. (integer_value (leading_digits bytes.now) ≡ Some r.0) × (r.1.now ≡ after_digits bytes.now)) }
+    ensures within { IfSome result (λ r. r.0 < 10 ^ 10) }
+{
+    let (digits, rest) = bytes.split_at(digit_count(bytes));
+    match digits.len() {
+        1..=10 => Some((number_of(digits), rest)),
+        _ => None,
+    }
+}
+
+// How many digits stand at the front.
+fn digit_count(bytes: &[u8]) -> usize
+    ensures { result ≡ prefix_len is_digit bytes.now }
+{
+    for (at, b) in bytes.iter().enumerate() {
+        if !b.is_ascii_digit() {
+            return at;
+        }
+    }
+    bytes.len()
+}
+
+fn number_of(digits: &[u8]) -> u64
+    requires digits { AllPass is_digit digits.now }
+    requires few { length digits.now ≤ 10 }
+    ensures value { result ≡ spelled digits.now }
+    ensures within { result < 10 ^ length digits.now }
+{
+    let mut number = 0;
+    for b in digits {
+        number = number * 10 + u64::from(*b - b'0');
+    }
+    number
+}
+
+// The hundredths that follow the whole part of money.
+fn hundredths_of(bytes: &[u8]) -> Option<u8>
+    ensures value { result ≡ hundredths_value bytes.now }
+    ensures within { IfSome result (λ n. n < 100) }
+{
+    match bytes {
+        [] => Some(0),
+        [b'.', tenths] => pair_of(*tenths, b'0'),
+        [b'.', tenths, ones] => pair_of(*tenths, *ones),
+        _ => None,
+    }
+}
+
+// The number that two digits spell.
+fn pair_of(tens: u8, ones: u8) -> Option<u8>
+    ensures value { MatchOption result ((is_digit tens && is_digit ones) ≡ false) (IsPair tens ones) }
+    ensures within { IfSome result (λ n. n < 100) }
+{
+    match (tens, ones) {
+        (b'0'..=b'9', b'0'..=b'9') => Some((tens - b'0') * 10 + (ones - b'0')),
+        _ => None,
+    }
 }

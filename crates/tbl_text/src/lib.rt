@@ -4,6 +4,7 @@
 
 mod base;
 mod field;
+mod fields;
 mod line;
 mod lines;
 

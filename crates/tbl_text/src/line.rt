@@ -2,6 +2,7 @@
 ghost use Rattle.std.specs.Prelude.{◌≡◌, ◌≤◌, length};
 ghost use Rattle.tbl_text.specs.Line.{line_value};
 
+use crate::fields::judged;
 use cubit_base::{Key, Tuple};
 
 /// What is wrong with a line.
@@ -37,5 +38,5 @@ pub fn line_of(bytes: &[u8]) -> Result<(Key, Tuple), LineFault>
     requires { length bytes.now ≤ 4_294_967_295 }
     ensures { result ≡ line_value bytes.now }
 {
-    Err(LineFault::Order)
+    judged(bytes)
 }
