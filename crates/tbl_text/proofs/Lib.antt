@@ -1,1 +1,2 @@
+pub mod FirstLine
 mod WorkedRows
