@@ -1,2 +1,5 @@
+pub mod Faults
 pub mod FirstLine
+pub mod ReadLines
+pub mod RisingKeys
 mod WorkedRows

@@ -2,3 +2,4 @@ pub mod Base
 pub mod Field
 pub mod Line
 pub mod Lines
+pub mod Reading
