@@ -1,5 +1,6 @@
 pub mod Faults
 pub mod FirstLine
+pub mod FirstRepeat
 pub mod ReadLines
 pub mod RisingKeys
 mod WorkedRows
