@@ -3,4 +3,5 @@ pub mod FirstLine
 pub mod FirstRepeat
 pub mod ReadLines
 pub mod RisingKeys
+pub mod SortedEntries
 mod WorkedRows

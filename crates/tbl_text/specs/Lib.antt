@@ -3,3 +3,4 @@ pub mod Field
 pub mod Line
 pub mod Lines
 pub mod Reading
+pub mod Repeats
