@@ -1,4 +1,10 @@
+mod WorkedRows
 pub mod Bars
 pub mod Dates
 pub mod Digits
-mod WorkedRows
+pub mod Faults
+pub mod FirstLine
+pub mod FirstRepeat
+pub mod ReadLines
+pub mod RisingKeys
+pub mod SortedEntries

@@ -2,6 +2,8 @@
 ghost use Rattle.std.specs.Prelude.{◌≡◌, ◌+◌, ◌<◌, ◌≤◌, ◌↔◌, ◌∷◌, [], length, min, take, drop, IsNone, IfSome};
 ghost use Rattle.tbl_text.specs.Lines.{lines_of, line_end, without_cr};
 
+use memchr::memchr;
+
 /// Where the first line ends.
 #[derive(Clone, Copy, Debug, PartialEq, Eq)]
 pub struct Line {
@@ -9,6 +11,22 @@ pub struct Line {
     pub len: usize,
     /// Where the next line begins.
     pub next: usize,
+}
+
+fn line_end(bytes: &[u8]) -> usize
+    ensures { result ≡ line_end bytes.now }
+{
+    memchr(b'\n', bytes).unwrap_or(bytes.len())
+}
+
+// How much of a line is left without the one CR that may end it.
+fn len_without_cr(line: &[u8]) -> usize
+    ensures { result ≡ length (without_cr line.now) }
+{
+    match line.last() {
+        Some(b'\r') => line.len() - 1,
+        _ => line.len(),
+    }
 }
 
 /// The first line, or none where there are no bytes. LF ends a line, and a CR before it, or at the end of the bytes,
@@ -23,5 +41,12 @@ pub fn first_line(bytes: &[u8]) -> Option<Line>
     ensures lines { IfSome result (λ line. lines_of bytes.now
         ≡ take line.len bytes.now ∷ lines_of (drop line.next bytes.now)) }
 {
-    None
+    if bytes.is_empty() {
+        return None;
+    }
+    let end = line_end(bytes);
+    Some(Line {
+        len: len_without_cr(&bytes[..end]),
+        next: (end + 1).min(bytes.len()),
+    })
 }
