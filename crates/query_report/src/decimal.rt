@@ -36,3 +36,24 @@ fn digit(n: u16) -> u8
 {
     b'0' + n as u8
 }
+
+#[cfg(test)]
+mod tests {
+    use super::*;
+    use std::test::Fail;
+
+    #[test]
+    fn sums(rt: HostRuntime) -> Result<(), Fail> {
+        for (units, text) in [
+            (0, "0.0000"),
+            (1, "0.0001"),
+            (9_999, "0.9999"),
+            (10_000, "1.0000"),
+            (8_467_292, "846.7292"),
+            (18_446_744_073_709_551_615, "1844674407370955.1615"),
+        ] {
+            assert_eq!(rt; decimal4(rt.alloc(), units)?.as_slice(), text.as_bytes());
+        }
+        Ok(())
+    }
+}
