@@ -4,4 +4,5 @@ pub mod FirstRepeat
 pub mod ReadLines
 pub mod RisingKeys
 pub mod SortedEntries
+pub mod SortedKeys
 mod WorkedRows
