@@ -88,7 +88,7 @@ first_fault-read limit place earlier [] front are = refl
 first_fault-read limit place earlier (line ∷ later) front are =
     rw (take_at earlier (line ∷ later) place are.lines_len)
     (first_fault-line limit place earlier later line front (place == limit) (line_value line) are refl
-        (λ row longer. rw (append_assoc earlier (line ∷ []) later) at (first_fault-read limit (place + 1) (earlier ++ line ∷ []) later (front ++ row ∷ []) longer)))
+    (λ row longer. rw (append_assoc earlier (line ∷ []) later) at (first_fault-read limit (place + 1) (earlier ++ line ∷ []) later (front ++ row ∷ []) longer)))
 
 -- a file's value is what comes of what is read of it
 pub base_value-outcome : (limit : ℕ) (bytes : List ℕ) → base_value limit bytes ≡ outcome (read_from limit 0 (lines_of bytes))

@@ -39,15 +39,15 @@ repeat_at-none : (rows : List Row) (place : ℕ) (row d : Row) → place ≤ len
 repeat_at-none rows place row d within differ =
     let len : length (take place rows) ≡ place = length-take-le place rows within in
     ap (option_map (λ first. fault.Twice (place + 1) (first + 1))) (position-none (λ earlier. same_key earlier.0 row.0) (take place rows) d
-        (λ k below. let at : k < place = omega arith in rw (get_or-take place rows k d at) (same_key-other _ _ (differ k at))))
+    (λ k below. let at : k < place = omega arith in rw (get_or-take place rows k d at) (same_key-other _ _ (differ k at))))
 
 -- a row whose key an earlier row has, and no row before that
 repeat_at-some : (rows : List Row) (place earlier : ℕ) (row d : Row) → place ≤ length rows → earlier < place → ((k : ℕ) → k < earlier → (get_or rows k d).0 ≢ row.0) → (get_or rows earlier d).0 ≡ row.0 → repeat_at rows place row ≡ Some (fault.Twice (place + 1) (earlier + 1))
 repeat_at-some rows place earlier row d within order before same =
     let len : length (take place rows) ≡ place = length-take-le place rows within in
     ap (option_map (λ first. fault.Twice (place + 1) (first + 1))) (position-first (λ other. same_key other.0 row.0) (take place rows) earlier d (omega arith)
-        (λ k below. let at : k < place = omega arith in rw (get_or-take place rows k d at) (same_key-other _ _ (before k below)))
-        (rw (get_or-take place rows earlier d order) (same_key-same _ _ same)))
+    (λ k below. let at : k < place = omega arith in rw (get_or-take place rows k d at) (same_key-other _ _ (before k below)))
+    (rw (get_or-take place rows earlier d order) (same_key-same _ _ same)))
 
 -- no fault at any place
 filter_map-none : (h : ℕ × Row → Option BaseFault) (place : ℕ) (rows : List Row) → ((k n : ℕ) (d : Row) → n ≡ place + k → k < length rows → h (n, get_or rows k d) ≡ None) → filter_map h (enumerate_from place rows) ≡ []
@@ -78,9 +78,9 @@ distinct-before rows earlier later repeat i j d order below =
 outcome-repeat : (rows : List Row) (stop : Option BaseFault) (d : Row) (earlier later : ℕ) → IsFirstRepeat rows earlier later → outcome (rows, stop) ≡ Err (fault.Twice (later + 1) (earlier + 1))
 outcome-repeat rows stop d earlier later repeat =
     first_fault-at (λ p. repeat_at rows p.0 p.1) 0 rows later d (fault.Twice (later + 1) (earlier + 1)) (option_to_list stop) rows
-        (λ k n is below. rw (let at : n ≡ k = omega arith in at) (repeat_at-none rows k (get_or rows k d) d (omega arith) (λ j before. distinct-before rows earlier later repeat j k d before below)))
-        repeat.within
-        (λ n is. rw (let at : n ≡ later = omega arith in at) (repeat_at-some rows later earlier (get_or rows later d) d (omega arith) repeat.order (λ k below. rw (← repeat.same d) (distinct-before rows earlier later repeat k earlier d below repeat.order)) (repeat.same d)))
+    (λ k n is below. rw (let at : n ≡ k = omega arith in at) (repeat_at-none rows k (get_or rows k d) d (omega arith) (λ j before. distinct-before rows earlier later repeat j k d before below)))
+    repeat.within
+    (λ n is. rw (let at : n ≡ later = omega arith in at) (repeat_at-some rows later earlier (get_or rows later d) d (omega arith) repeat.order (λ k below. rw (← repeat.same d) (distinct-before rows earlier later repeat k earlier d below repeat.order)) (repeat.same d)))
 
 -- the value of a file, of which rows and a fault were read
 pub base_value-distinct : (limit : ℕ) (bytes : List ℕ) (rows : List Row) (stop : Option BaseFault) → (rows, stop) ≡ read_from limit 0 (lines_of bytes) → HasDistinctKeys rows → base_value limit bytes ≡ first_fault_or (option_to_list stop) rows

@@ -1,4 +1,3 @@
-mod WorkedRows
 pub mod Bars
 pub mod Dates
 pub mod Digits
@@ -8,3 +7,5 @@ pub mod FirstRepeat
 pub mod ReadLines
 pub mod RisingKeys
 pub mod SortedEntries
+pub mod SortedKeys
+mod WorkedRows

@@ -30,8 +30,8 @@ key_is_less-each : (rows : List Row) (key : KeyValue) → HasRisingKeys rows →
 key_is_less-each rows key rising above k d within =
     let last : key_is_less (get_or rows (length rows - 1) d).0 key ≡ true = rw (slice_get-get_or rows (length rows - 1) d (omega arith)) at above in
     elim (cases_eq k (length rows - 1)) [
-      inl is ↦ rw is last
-    | inr differs ↦ key_is_less-trans (get_or rows k d).0 (get_or rows (length rows - 1) d).0 key (rising k (length rows - 1) d (omega arith) (omega arith)) last
+      | inl is ↦ rw is last
+      | inr differs ↦ key_is_less-trans (get_or rows k d).0 (get_or rows (length rows - 1) d).0 key (rising k (length rows - 1) d (omega arith) (omega arith)) last
     ]
 
 -- a row whose key is above the last row's

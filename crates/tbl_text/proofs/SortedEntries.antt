@@ -71,19 +71,19 @@ LeastTie-more entries i z None some within before =
     let a : Entry = get_or entries (i - 1) z in
     let b : Entry = get_or entries i z in
     elim (cases_Bool (has_same_key a b)) [
-      inl same ↦ rw same (LeastTie-new entries i z None some within before (same_key-true a b same) (λ tie is. cc))
-    | inr other ↦ rw other (LeastTie-other entries i z None some within before (same_key-false a b other))
+      | inl same ↦ rw same (LeastTie-new entries i z None some within before (same_key-true a b same) (λ tie is. cc))
+      | inr other ↦ rw other (LeastTie-other entries i z None some within before (same_key-false a b other))
     ]
 LeastTie-more entries i z (Some tie) some within before =
     let a : Entry = get_or entries (i - 1) z in
     let b : Entry = get_or entries i z in
     elim (cases_Bool (has_same_key a b)) [
-      inl same ↦
-      elim (cases_lt b.row tie.later) [
-        inl below ↦ rw (same, lt-ltb b.row tie.later below) (LeastTie-new entries i z (Some tie) some within before (same_key-true a b same) (λ other is. rw (same_Some tie other is) at below))
-      | inr above ↦ rw (same, le-ltb b.row tie.later above) (IsLeastTie-more entries i tie.earlier tie.later some before (λ d _. at_neighbours (λ _ y. tie.later ≤ y.row) entries i z some within above d))
-      ]
-    | inr other ↦ rw other (LeastTie-other entries i z (Some tie) some within before (same_key-false a b other))
+      | inl same ↦
+          elim (cases_lt b.row tie.later) [
+            | inl below ↦ rw (same, lt-ltb b.row tie.later below) (LeastTie-new entries i z (Some tie) some within before (same_key-true a b same) (λ other is. rw (same_Some tie other is) at below))
+            | inr above ↦ rw (same, le-ltb b.row tie.later above) (IsLeastTie-more entries i tie.earlier tie.later some before (λ d _. at_neighbours (λ _ y. tie.later ≤ y.row) entries i z some within above d))
+          ]
+      | inr other ↦ rw other (LeastTie-other entries i z (Some tie) some within before (same_key-false a b other))
     ]
 
 -- a lower place

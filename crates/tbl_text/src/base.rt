@@ -91,3 +91,6 @@ fn read_lines(alloc: Global, bytes: &[u8], row_limit: u32) -> Result<Reading, Me
     }
     Ok(Reading { rows, fault: None })
 }
+
+#[cfg(test)]
+mod tests;

@@ -50,3 +50,25 @@ pub fn first_line(bytes: &[u8]) -> Option<Line>
         next: (end + 1).min(bytes.len()),
     })
 }
+
+#[cfg(test)]
+mod tests {
+    use super::*;
+
+    #[test]
+    fn reads_first_lines(rt: HostRuntime) {
+        let cases: [(&[u8], usize, usize); 7] = [
+            (b"\n", 0, 1),
+            (b"\r\n", 0, 2),
+            (b"a", 1, 1),
+            (b"a\r", 1, 2),
+            (b"a\r\r\nb", 2, 4),
+            (b"a\nb", 1, 2),
+            (b"\r", 0, 1),
+        ];
+        for (bytes, len, next) in cases {
+            assert_eq!(rt; first_line(bytes), Some(Line { len, next }), "of {bytes:?}");
+        }
+        assert_eq!(rt; first_line(b""), None);
+    }
+}

@@ -22,7 +22,8 @@ fn is_above(key: Key, other: Option<Key>) -> bool
     ensures { result ≡ is_above key other }
 {
     match other {
-        Some(other) => other.order < key.order || (other.order == key.order && other.line < key.line),
+        Some(other) => other.order < key.order
+            || (other.order == key.order && other.line < key.line),
         None => true,
     }
 }

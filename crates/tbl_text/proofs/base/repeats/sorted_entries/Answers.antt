@@ -9,5 +9,5 @@ loop-row-preserved c =
     let key : KeyValue = record { order = c.key.inside.order; line = c.key.inside.line } in
     let row : Row = (key, c.unwrap-key.result.1) in
     let read : slice_get c.args.table.now c.loop-row.row ≡ Some row =
-        sym c.row.ensures ∙ c.unwrap-key.ensures ∙ ap (λ (k : KeyValue). Some (k, c.unwrap-key.result.1)) (sym c.key.view_is) in
+    sym c.row.ensures ∙ c.unwrap-key.ensures ∙ ap (λ (k : KeyValue). Some (k, c.unwrap-key.result.1)) (sym c.key.view_is) in
     rw (c.in_ok-push.ensures.items, c.loop-row.invariant) (entries_of-more c.args.table.now c.loop-row.row row read)

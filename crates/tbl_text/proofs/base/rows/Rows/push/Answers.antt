@@ -11,5 +11,5 @@ pub invariant_of-self-2-clause-rising : goal.invariant_of-self-2-clause-rising
 invariant_of-self-2-clause-rising c = λ still.
     let parts = and_parts c.args.self.now.are_rising c.is_above.result still in
     let above : is_above c.args.key (last_key c.args.self.now.table) ≡ true =
-        rw (sym c.args.self.now.ends) (sym c.is_above.ensures ∙ parts.1) in
+    rw (sym c.args.self.now.ends) (sym c.is_above.ensures ∙ parts.1) in
     rw c.in_ok-push.ensures.ok (HasRisingKeys-push c.args.self.now.table (c.args.key, Some c.args.tuple) (c.args.self.now.rising parts.0) above)
