@@ -1,6 +1,6 @@
 //! Standard output and standard error as sinks. Each piece goes out before the call returns, so that its count sees
 //! a failure.
-ghost use Rattle.std.specs.Prelude.{◌≡◌, ◌<◌, ◌≤◌, ℕ, List, Option, None, length, take, IfOk, OnErr, is_ok, if◌then◌else◌};
+ghost use Rattle.std.specs.Prelude.{◌≡◌, ◌<◌, ◌≤◌, ℕ, List, Option, None, true, false, length, take, IfOk, OnErr, is_ok, if◌then◌else◌};
 ghost use Rattle.cubit_io.specs.Count.{Rose, raised};
 ghost use Rattle.cubit_io.specs.Pieces.{GrewBy};
 
@@ -24,15 +24,17 @@ pub struct StdSink {
 }
 
 impl Model for StdSink {
-    ghost Value = { ℕ };
+    ghost use Rattle.cubit_io.specs.StdSink.{StdSinkValue, is_error_stream};
 
-    ghost view = { λ s. s.faults };
+    ghost Value = { StdSinkValue };
+
+    ghost view = { λ s. record { is_error = is_error_stream s.stream; faults = s.faults } };
 }
 
 impl StdSink {
     /// Standard output.
     pub fn out(rt: &HostRuntime) -> StdSink
-        ensures { result ≡ 0 }
+        ensures { result ≡ record { is_error = false; faults = 0 } }
     {
         StdSink {
             stream: Stream::Out(rt.stdout()),
@@ -42,7 +44,7 @@ impl StdSink {
 
     /// Standard error.
     pub fn err(rt: &HostRuntime) -> StdSink
-        ensures { result ≡ 0 }
+        ensures { result ≡ record { is_error = true; faults = 0 } }
     {
         StdSink {
             stream: Stream::Err(rt.stderr()),
@@ -54,16 +56,17 @@ impl StdSink {
 impl Sink for StdSink {
     ghost taken = { λ _. None };
 
-    ghost faults = { λ s. s };
+    ghost faults = { λ s. s.faults };
 
     /// Writes without a buffer. It fails too where the outside took nothing of bytes that are there.
     fn write(&mut self, bytes: &[u8]) -> Result<usize, Failed>
         ensures within { IfOk result (λ n. n ≤ length bytes.now) }
         ensures progress { 0 < length bytes.now → IfOk result (λ n. 0 < n) }
-        ensures cause { OnErr result (Rose self.old self.new) }
-        ensures counted { self.old ≤ self.new }
+        ensures cause { OnErr result (Rose self.old.faults self.new.faults) }
+        ensures counted { self.old.faults ≤ self.new.faults }
 
-        ensures faults { self.new ≡ (if is_ok result then self.old else raised self.old) }
+        ensures faults { self.new.faults ≡ (if is_ok result then self.old.faults else raised self.old.faults) }
+        ensures stream { self.new.is_error ≡ self.old.is_error }
     {
         let written = match &mut self.stream {
             Stream::Out(stream) => stream.write(bytes),
