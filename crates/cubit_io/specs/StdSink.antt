@@ -1,7 +1,7 @@
 -- The standard streams, of which nothing is told of what they took.
 use Rattle.std.specs.Prelude.{ℕ, Bool, true, false}
 use Rattle.cubit_io.specs.declared.std_sink.Stream.{Stream}
-use Rattle.cubit_io.specs.declared.std_sink.Stream.TheVariants.{Out, Err}
+use Rattle.cubit_io.specs.declared.std_sink.Stream.TheVariants.{Output, Error}
 
 -- whether it is standard error, and how many calls failed
 pub record StdSinkValue : Type 0 where
@@ -10,5 +10,5 @@ pub record StdSinkValue : Type 0 where
 
 -- whether the stream is standard error
 abbrev pub is_error_stream : Stream → Bool
-is_error_stream (Out stream) = false
-is_error_stream (Err stream) = true
+is_error_stream (Output stream) = false
+is_error_stream (Error stream) = true

@@ -1,8 +1,7 @@
 //! Standard output and standard error as sinks. Each piece goes out before the call returns, so that its count sees
 //! a failure.
-ghost use Rattle.std.specs.Prelude.{◌≡◌, ◌<◌, ◌≤◌, ℕ, List, Option, None, true, false, length, take, IfOk, OnErr, is_ok, if◌then◌else◌};
+ghost use Rattle.std.specs.Prelude.{◌≡◌, ◌<◌, ◌≤◌, None, true, false, length, IfOk, OnErr, is_ok, if◌then◌else◌};
 ghost use Rattle.cubit_io.specs.Count.{Rose, raised};
-ghost use Rattle.cubit_io.specs.Pieces.{GrewBy};
 
 use crate::count::raised;
 use crate::{Failed, Sink};
@@ -12,8 +11,8 @@ use std::marker::Model;
 /// One of the two streams of the process.
 #[derive(Clone, Copy)]
 enum Stream {
-    Out(Stdout),
-    Err(Stderr),
+    Output(Stdout),
+    Error(Stderr),
 }
 
 /// Standard output or standard error. What was taken is not told; contracts see how often it failed.
@@ -37,7 +36,7 @@ impl StdSink {
         ensures { result ≡ record { is_error = false; faults = 0 } }
     {
         StdSink {
-            stream: Stream::Out(rt.stdout()),
+            stream: Stream::Output(rt.stdout()),
             faults: 0,
         }
     }
@@ -47,7 +46,7 @@ impl StdSink {
         ensures { result ≡ record { is_error = true; faults = 0 } }
     {
         StdSink {
-            stream: Stream::Err(rt.stderr()),
+            stream: Stream::Error(rt.stderr()),
             faults: 0,
         }
     }
@@ -69,8 +68,8 @@ impl Sink for StdSink {
         ensures stream { self.new.is_error ≡ self.old.is_error }
     {
         let written = match &mut self.stream {
-            Stream::Out(stream) => stream.write(bytes),
-            Stream::Err(stream) => stream.write(bytes),
+            Stream::Output(stream) => stream.write(bytes),
+            Stream::Error(stream) => stream.write(bytes),
         };
         match written {
             Ok(count) if count > 0 || bytes.is_empty() => Ok(count),
