@@ -1,6 +1,7 @@
 //! Standard output and standard error as sinks. Each piece goes out before the call returns, so that its count sees
 //! a failure.
-ghost use Rattle.std.specs.Prelude.{◌≡◌, ◌<◌, ◌≤◌, None, true, false, length, IfOk, OnErr, is_ok, if◌then◌else◌};
+ghost use Rattle.std.specs.Prelude.{◌≡◌, ◌<◌, ◌≤◌, [], None, true, false, length, take, IfOk, OnErr, is_ok, if◌then◌else◌};
+ghost use Rattle.std.specs.Io.KnownBytes.{Appends};
 ghost use Rattle.cubit_io.specs.Count.{Rose, raised};
 
 use crate::count::raised;
@@ -68,16 +69,26 @@ impl Sink for StdSink {
         ensures stream { self.new.is_error ≡ self.old.is_error }
     {
         let written = match &mut self.stream {
-            Stream::Output(stream) => stream.write(bytes),
-            Stream::Error(stream) => stream.write(bytes),
+            Stream::Output(stream) => write_once(stream, bytes),
+            Stream::Error(stream) => write_once(stream, bytes),
         };
-        match written {
-            Ok(count) if count > 0 || bytes.is_empty() => Ok(count),
-            _ => {
-                self.faults = raised(self.faults);
-                Err(Failed)
-            }
+        if written.is_err() {
+            self.faults = raised(self.faults);
         }
+        written
+    }
+}
+
+// One write to a stream. Where it took nothing of bytes that are there, that is a failure.
+fn write_once<W: Write>(stream: &mut W, bytes: &[u8]) -> Result<usize, Failed>
+    ensures within { IfOk result (λ n. n ≤ length bytes.now) }
+    ensures progress { 0 < length bytes.now → IfOk result (λ n. 0 < n) }
+    ensures appended { IfOk result (λ n. Appends (W.contents stream.old) (W.contents stream.new) (take n bytes.now)) }
+    ensures kept { OnErr result (Appends (W.contents stream.old) (W.contents stream.new) []) }
+{
+    match stream.write(bytes) {
+        Ok(count) if count > 0 || bytes.is_empty() => Ok(count),
+        _ => Err(Failed),
     }
 }
 
@@ -93,5 +104,7 @@ mod tests {
         let mut err = StdSink::err(&rt);
         assert_eq!(rt; write_all(&mut err, b"to standard error\n"), Ok(()));
         assert_eq!(rt; (out.faults, err.faults), (0, 0));
+        let mut full: &mut [u8] = &mut [];
+        assert_eq!(rt; write_once(&mut full, b"one more"), Err(Failed));
     }
 }
