@@ -1,5 +1,5 @@
 -- Bytes that are taken piece by piece.
-use Rattle.std.proofs.Common.{◌≡◌, ◌-◌, ℕ, ◌+◌, List, ◌++◌, Option, Some, None, length, take, drop, append_assoc, length-drop, arith}
+use Rattle.std.proofs.Common.{◌-◌, ℕ, ◌+◌, List, Option, Some, None, length, take, drop, append_assoc, length-drop, arith}
 use Rattle.std.proofs.Math.Seq.{take-add}
 use Rattle.std.proofs.lemmas.List.{take_all}
 use Rattle.cubit_io.specs.Pieces.{GrewBy}

@@ -5,3 +5,4 @@ pub mod MemoryFile
 pub mod MemoryFiles
 pub mod MemorySink
 pub mod Pieces
+pub mod StdSink

@@ -1,8 +1,7 @@
 //! The files of the outside. What they hold is not told; only how often they failed.
-ghost use Rattle.std.specs.Prelude.{◌≡◌, ◌⊎◌, ◌<◌, ◌≤◌, [], List, ℕ, Option, None, Ok, true, false, IsOk, IsTrue, length, take, IfOk, IfSome, OnOk, OnErr, IsErr, is_ok, if◌then◌else◌};
+ghost use Rattle.std.specs.Prelude.{◌≡◌, ◌≤◌, [], Option, Some, None, Ok, false, length, IfOk, OnErr, is_ok, if◌then◌else◌};
 ghost use Rattle.cubit_io.specs.Count.{Rose, raised};
-ghost use Rattle.cubit_io.specs.Held.{Held, IsMissing, Chooses};
-ghost use Rattle.cubit_io.specs.Pieces.{Gives};
+ghost use Rattle.std.specs.Io.KnownBytes.{ReadConsumes};
 
 use crate::count::raised;
 use crate::{Failed, Files};
@@ -21,17 +20,21 @@ pub struct DiskFiles<R: HostFiles> {
 
 impl<R: HostFiles> Model for DiskFiles<R> {
     ghost use Rattle.std.specs.Prelude.{is_some};
-    ghost use Rattle.cubit_io.specs.DiskFiles.{DiskFilesValue};
+    ghost use Rattle.cubit_io.specs.DiskFiles.{DiskFilesValue, remaining_of};
 
     ghost Value = { DiskFilesValue };
 
-    ghost view = { λ d. record { has_chosen = is_some d.chosen; faults = d.faults } };
+    ghost view = { λ d. record {
+      has_chosen = is_some d.chosen;
+      remaining = remaining_of R.File.remaining d.chosen;
+      faults = d.faults;
+    } };
 }
 
 impl<R: HostFiles> DiskFiles<R> {
     /// The runtime's files, of which none is chosen.
     pub fn make(rt: R) -> DiskFiles<R>
-        ensures { result ≡ record { has_chosen = false; faults = 0 } }
+        ensures { result ≡ record { has_chosen = false; remaining = Some []; faults = 0 } }
     {
         DiskFiles {
             rt,
@@ -53,7 +56,7 @@ impl<R: HostFiles> Files for DiskFiles<R> {
         ensures cause { OnErr result (Rose self.old.faults self.new.faults) }
         ensures counted { self.old.faults ≤ self.new.faults }
 
-        ensures chosen { self.new.has_chosen ≡ is_ok result }
+        ensures opened { self.new.has_chosen ≡ is_ok result }
         ensures faults { self.new.faults ≡ (if is_ok result then self.old.faults else raised self.old.faults) }
     {
         self.chosen = None;
@@ -69,11 +72,14 @@ impl<R: HostFiles> Files for DiskFiles<R> {
         }
     }
 
+    /// Reads on in the chosen file.
     fn read(&mut self, buffer: &mut [u8]) -> Result<usize, Failed>
         ensures within { IfOk result (λ n. n ≤ length buffer.old) }
         ensures cause { OnErr result (Rose self.old.faults self.new.faults) }
         ensures counted { self.old.faults ≤ self.new.faults }
 
+        // It gives what the runtime's file gives.
+        ensures passed_on { ReadConsumes self.old.remaining self.new.remaining result buffer.new }
         ensures none_chosen { self.old.has_chosen ≡ false → result ≡ Ok 0 }
         ensures chosen { self.new.has_chosen ≡ self.old.has_chosen }
         ensures faults { self.new.faults ≡ (if is_ok result then self.old.faults else raised self.old.faults) }
@@ -110,7 +116,10 @@ mod tests {
         fs::remove_file(&rt, name.as_str())?;
         assert_eq!(rt; bytes?.as_slice(), b"a line\n".as_slice());
         assert_eq!(rt; files.faults, 0);
-        assert_eq!(rt; read_all(alloc, &mut files, name.as_str()).err(), Some(ReadStop::Fault));
+        assert_eq!(rt;
+            read_all(alloc, &mut files, name.as_str()).err(),
+            Some(ReadStop::Fault)
+        );
         assert_eq!(rt; files.faults, 1);
         Ok(())
     }

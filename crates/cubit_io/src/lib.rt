@@ -6,10 +6,10 @@
 
 mod count;
 mod disk_files;
+mod failing_calls;
 mod files;
 mod memory_files;
 mod memory_sink;
-mod schedule;
 mod sink;
 mod std_sink;
 mod whole;
@@ -19,6 +19,6 @@ pub use files::{Failed, Files};
 pub use memory_files::MemoryFiles;
 pub use memory_sink::MemorySink;
 pub use sink::Sink;
-pub use std_sink::StdSink;
 pub use std::alloc::AllocError as Memory;
+pub use std_sink::StdSink;
 pub use whole::{FILE_LIMIT, ReadStop, read_all, write_all};

@@ -1,5 +1,5 @@
 //! Files in memory, for tests.
-ghost use Rattle.std.specs.Prelude.{◌≡◌, ◌≢◌, ◌⊎◌, ◌<◌, ◌≤◌, ◌+◌, ◌-◌, ◌++◌, [], List, ℕ, Option, Some, Ok, length, min, take, drop, Contains, IfOk, IfSome, OnOk, OnErr, IsErr, IsOk, is_ok, if◌then◌else◌};
+ghost use Rattle.std.specs.Prelude.{◌≡◌, ◌≢◌, ◌⊎◌, ◌<◌, ◌≤◌, ◌+◌, ◌-◌, [], List, ℕ, Option, Some, Ok, length, min, take, drop, Contains, IfOk, IfSome, OnOk, OnErr, IsErr, is_ok, if◌then◌else◌};
 ghost use Rattle.std.specs.Str.{bytes_eq};
 ghost use Rattle.cubit_io.specs.Count.{Rose, raised};
 ghost use Rattle.cubit_io.specs.Held.{IsMissing, Chooses};
@@ -7,7 +7,7 @@ ghost use Rattle.cubit_io.specs.Pieces.{Gives};
 ghost use Rattle.cubit_io.specs.MemoryFiles.{bytes_under, index_under};
 
 use crate::count::raised;
-use crate::schedule::Schedule;
+use crate::failing_calls::FailingCalls;
 use crate::{Failed, Files, Memory};
 use std::alloc::Global;
 use std::marker::Model;
@@ -40,7 +40,7 @@ struct Place {
 pub struct MemoryFiles {
     files: Vec<MemoryFile>,
     place: Option<Place>,
-    schedule: Schedule,
+    failing: FailingCalls,
     faults: u64,
 }
 
@@ -50,11 +50,11 @@ impl Model for MemoryFiles {
     ghost Value = { MemoryFilesValue };
 
     ghost view = { λ m. record {
-        files = m.files.items;
-        rest = left_at m.files.items m.place;
-        fails = m.schedule.fails.items;
-        calls = m.schedule.calls;
-        faults = m.faults;
+      files = m.files.items;
+      rest = left_at m.files.items m.place;
+      fails = m.failing.numbers.items;
+      calls = m.failing.calls;
+      faults = m.faults;
     } };
 
     ghost invariant = { λ m. IsWithin m.files.items m.place };
@@ -113,7 +113,7 @@ impl MemoryFiles {
         MemoryFiles {
             files: Vec::new(alloc),
             place: None,
-            schedule: Schedule::new(fails),
+            failing: FailingCalls::new(fails),
             faults: 0,
         }
     }
@@ -155,18 +155,19 @@ impl Files for MemoryFiles {
         ensures counted { self.old.faults ≤ self.new.faults }
 
         ensures listed { Contains self.new.fails self.new.calls → IsErr result }
-        ensures not_listed { OnErr result (IsMissing (held_of self.old) name.now ⊎ Contains self.new.fails self.new.calls) }
+        ensures not_listed { OnErr result
+            (IsMissing (held_of self.old) name.now ⊎ Contains self.new.fails self.new.calls) }
         ensures number { self.new.calls ≡ raised self.old.calls }
         ensures fails { self.new.fails ≡ self.old.fails }
         ensures quiet { OnOk result (self.new.faults ≡ self.old.faults) }
         ensures no_more { self.new.faults ≤ raised self.old.faults }
     {
         self.place = None;
-        let fails = self.schedule.next_fails();
+        let is_listed = self.failing.next_fails();
         let Some(file) = index_of(&self.files, name) else {
             return Err(Failed);
         };
-        if fails {
+        if is_listed {
             self.faults = raised(self.faults);
             return Err(Failed);
         }
@@ -192,7 +193,7 @@ impl Files for MemoryFiles {
         ensures fails { self.new.fails ≡ self.old.fails }
         ensures faults { self.new.faults ≡ (if is_ok result then self.old.faults else raised self.old.faults) }
     {
-        if self.schedule.next_fails() {
+        if self.failing.next_fails() {
             self.faults = raised(self.faults);
             return Err(Failed);
         }
@@ -228,7 +229,10 @@ mod tests {
             files.keep(alloc, "kept", b"old")?;
             files.keep(alloc, "kept", b"bytes")?;
             match read_all(alloc, &mut files, name) {
-                Ok(bytes) => assert_eq!(rt; bytes.as_slice(), b"bytes".as_slice()),
+                Ok(bytes) => {
+                    assert_eq!(rt; None, stop, "{name} with {fails:?}");
+                    assert_eq!(rt; bytes.as_slice(), b"bytes".as_slice());
+                }
                 Err(got) => assert_eq!(rt; Some(got), stop, "{name} with {fails:?}"),
             }
             assert_eq!(rt; files.faults, faults, "{name} with {fails:?}");

@@ -1,10 +1,10 @@
 //! A sink in memory, for tests and for callers that want the bytes.
-ghost use Rattle.std.specs.Prelude.{◌≡◌, ◌<◌, ◌≤◌, [], List, ℕ, Option, Some, length, take, Contains, IfOk, OnErr, IsErr, is_ok, if◌then◌else◌};
+ghost use Rattle.std.specs.Prelude.{◌≡◌, ◌<◌, ◌≤◌, [], Some, length, take, Contains, IfOk, OnErr, IsErr, is_ok, if◌then◌else◌};
 ghost use Rattle.cubit_io.specs.Count.{Rose, raised};
 ghost use Rattle.cubit_io.specs.Pieces.{GrewBy};
 
 use crate::count::raised;
-use crate::schedule::Schedule;
+use crate::failing_calls::FailingCalls;
 use crate::{Failed, Sink};
 use std::alloc::Global;
 use std::marker::Model;
@@ -13,7 +13,7 @@ use std::marker::Model;
 #[derive(Drop)]
 pub struct MemorySink {
     taken: Vec<u8>,
-    schedule: Schedule,
+    failing: FailingCalls,
     faults: u64,
 }
 
@@ -23,10 +23,10 @@ impl Model for MemorySink {
     ghost Value = { MemorySinkValue };
 
     ghost view = { λ s. record {
-        taken = s.taken.items;
-        fails = s.schedule.fails.items;
-        calls = s.schedule.calls;
-        faults = s.faults;
+      taken = s.taken.items;
+      fails = s.failing.numbers.items;
+      calls = s.failing.calls;
+      faults = s.faults;
     } };
 }
 
@@ -37,7 +37,7 @@ impl MemorySink {
     {
         MemorySink {
             taken: Vec::new(alloc),
-            schedule: Schedule::new(fails),
+            failing: FailingCalls::new(fails),
             faults: 0,
         }
     }
@@ -70,7 +70,7 @@ impl Sink for MemorySink {
         ensures fails { self.new.fails ≡ self.old.fails }
         ensures faults { self.new.faults ≡ (if is_ok result then self.old.faults else raised self.old.faults) }
     {
-        if self.schedule.next_fails() || self.taken.extend_from_slice(bytes).is_err() {
+        if self.failing.next_fails() || self.taken.extend_from_slice(bytes).is_err() {
             self.faults = raised(self.faults);
             return Err(Failed);
         }

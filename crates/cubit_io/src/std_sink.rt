@@ -1,8 +1,8 @@
 //! Standard output and standard error as sinks. Each piece goes out before the call returns, so that its count sees
 //! a failure.
-ghost use Rattle.std.specs.Prelude.{◌≡◌, ◌<◌, ◌≤◌, ℕ, List, Option, None, length, take, IfOk, OnErr, is_ok, if◌then◌else◌};
+ghost use Rattle.std.specs.Prelude.{◌≡◌, ◌<◌, ◌≤◌, [], None, true, false, length, take, IfOk, OnErr, is_ok, if◌then◌else◌};
+ghost use Rattle.std.specs.Io.KnownBytes.{Appends};
 ghost use Rattle.cubit_io.specs.Count.{Rose, raised};
-ghost use Rattle.cubit_io.specs.Pieces.{GrewBy};
 
 use crate::count::raised;
 use crate::{Failed, Sink};
@@ -12,8 +12,8 @@ use std::marker::Model;
 /// One of the two streams of the process.
 #[derive(Clone, Copy)]
 enum Stream {
-    Out(Stdout),
-    Err(Stderr),
+    Output(Stdout),
+    Error(Stderr),
 }
 
 /// Standard output or standard error. What was taken is not told; contracts see how often it failed.
@@ -24,28 +24,30 @@ pub struct StdSink {
 }
 
 impl Model for StdSink {
-    ghost Value = { ℕ };
+    ghost use Rattle.cubit_io.specs.StdSink.{StdSinkValue, is_error_stream};
 
-    ghost view = { λ s. s.faults };
+    ghost Value = { StdSinkValue };
+
+    ghost view = { λ s. record { is_error = is_error_stream s.stream; faults = s.faults } };
 }
 
 impl StdSink {
     /// Standard output.
     pub fn out(rt: &HostRuntime) -> StdSink
-        ensures { result ≡ 0 }
+        ensures { result ≡ record { is_error = false; faults = 0 } }
     {
         StdSink {
-            stream: Stream::Out(rt.stdout()),
+            stream: Stream::Output(rt.stdout()),
             faults: 0,
         }
     }
 
     /// Standard error.
     pub fn err(rt: &HostRuntime) -> StdSink
-        ensures { result ≡ 0 }
+        ensures { result ≡ record { is_error = true; faults = 0 } }
     {
         StdSink {
-            stream: Stream::Err(rt.stderr()),
+            stream: Stream::Error(rt.stderr()),
             faults: 0,
         }
     }
@@ -54,28 +56,39 @@ impl StdSink {
 impl Sink for StdSink {
     ghost taken = { λ _. None };
 
-    ghost faults = { λ s. s };
+    ghost faults = { λ s. s.faults };
 
     /// Writes without a buffer. It fails too where the outside took nothing of bytes that are there.
     fn write(&mut self, bytes: &[u8]) -> Result<usize, Failed>
         ensures within { IfOk result (λ n. n ≤ length bytes.now) }
         ensures progress { 0 < length bytes.now → IfOk result (λ n. 0 < n) }
-        ensures cause { OnErr result (Rose self.old self.new) }
-        ensures counted { self.old ≤ self.new }
+        ensures cause { OnErr result (Rose self.old.faults self.new.faults) }
+        ensures counted { self.old.faults ≤ self.new.faults }
 
-        ensures faults { self.new ≡ (if is_ok result then self.old else raised self.old) }
+        ensures faults { self.new.faults ≡ (if is_ok result then self.old.faults else raised self.old.faults) }
+        ensures stream { self.new.is_error ≡ self.old.is_error }
     {
         let written = match &mut self.stream {
-            Stream::Out(stream) => stream.write(bytes),
-            Stream::Err(stream) => stream.write(bytes),
+            Stream::Output(stream) => write_once(stream, bytes),
+            Stream::Error(stream) => write_once(stream, bytes),
         };
-        match written {
-            Ok(count) if count > 0 || bytes.is_empty() => Ok(count),
-            _ => {
-                self.faults = raised(self.faults);
-                Err(Failed)
-            }
+        if written.is_err() {
+            self.faults = raised(self.faults);
         }
+        written
+    }
+}
+
+// One write to a stream. Where it took nothing of bytes that are there, that is a failure.
+fn write_once<W: Write>(stream: &mut W, bytes: &[u8]) -> Result<usize, Failed>
+    ensures within { IfOk result (λ n. n ≤ length bytes.now) }
+    ensures progress { 0 < length bytes.now → IfOk result (λ n. 0 < n) }
+    ensures appended { IfOk result (λ n. Appends (W.contents stream.old) (W.contents stream.new) (take n bytes.now)) }
+    ensures kept { OnErr result (Appends (W.contents stream.old) (W.contents stream.new) []) }
+{
+    match stream.write(bytes) {
+        Ok(count) if count > 0 || bytes.is_empty() => Ok(count),
+        _ => Err(Failed),
     }
 }
 
@@ -91,5 +104,7 @@ mod tests {
         let mut err = StdSink::err(&rt);
         assert_eq!(rt; write_all(&mut err, b"to standard error\n"), Ok(()));
         assert_eq!(rt; (out.faults, err.faults), (0, 0));
+        let mut full: &mut [u8] = &mut [];
+        assert_eq!(rt; write_once(&mut full, b"one more"), Err(Failed));
     }
 }

@@ -43,11 +43,7 @@ impl From<AllocError> for ReadStop {
 }
 
 /// All bytes of a file.
-pub fn read_all<F: Files>(
-    alloc: Global,
-    files: &mut F,
-    name: &str,
-) -> Result<Vec<u8>, ReadStop>
+pub fn read_all<F: Files>(alloc: Global, files: &mut F, name: &str) -> Result<Vec<u8>, ReadStop>
     ensures whole { IfOk result (λ bytes. HoldsWhereTold (F.held files.old) name.now bytes.items) }
     ensures within { IfOk result (λ bytes. vec_len bytes ≤ FILE_LIMIT) }
 
@@ -57,7 +53,8 @@ pub fn read_all<F: Files>(
         → IsErrOf result ReadStop.Fault ⊎ IsErrOf result ReadStop.Memory }
     ensures too_long { IsErrOf result ReadStop.TooLong
         → HasWhereTold (F.held files.old) name.now (λ bytes. FILE_LIMIT < length bytes) }
-    ensures longer { (bytes : List ℕ) → Holds (F.held files.old) name.now bytes → FILE_LIMIT < length bytes → IsErr result }
+    ensures longer { (bytes : List ℕ) → Holds (F.held files.old) name.now bytes → FILE_LIMIT < length bytes
+        → IsErr result }
 
     ensures held { F.held files.new ≡ F.held files.old }
     ensures counted { F.faults files.old ≤ F.faults files.new }
