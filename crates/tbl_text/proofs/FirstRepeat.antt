@@ -1,9 +1,9 @@
 -- The first fault among rows that were read is the first repeat of a key.
-use Rattle.std.proofs.Common.{◌≡◌, ◌≢◌, ℕ, ◌+◌, ◌<◌, ◌≤◌, zero, suc, Bool, true, false, ◌==◌, List, [], ◌∷◌, ◌++◌, length, get_or, take, Option, Some, None, option_map, Result, Ok, Err, refl, sym, ap, ◌∙◌, arith}
+use Rattle.std.proofs.Common.{◌≡◌, ◌≢◌, ℕ, ◌+◌, ◌<◌, ◌≤◌, zero, suc, Bool, true, false, List, [], ◌∷◌, ◌++◌, length, get_or, take, Option, Some, None, option_map, Err, refl, sym, ap, ◌∙◌, arith}
 use Rattle.std.specs.Prelude.{filter_map, position}
 use Rattle.std.specs.List.{enumerate_from}
 use Rattle.std.specs.Option.{option_to_list}
-use Rattle.std.proofs.lemmas.Bool.{lt-ltb, le-ltb, and_parts, eqb-true, eq-eqb, false_from_ne_true}
+use Rattle.std.proofs.lemmas.Bool.{lt-ltb, le-ltb, false_from_ne_true}
 use Rattle.std.proofs.lemmas.List.{get_or-take, length-take-le}
 use Rattle.std.proofs.lemmas.List.Sums.{position_or_len_is}
 use Rattle.cubit_base.specs.Key.{KeyValue, same_key}
@@ -12,8 +12,8 @@ use Rattle.tbl_text.specs.declared.base.BaseFault.{BaseFault}
 use Rattle.tbl_text.specs.declared.base.BaseFault.TheVariants as fault
 use Rattle.tbl_text.specs.Lines.{lines_of}
 use Rattle.tbl_text.specs.Base.{base_value, first_fault_or}
-use Rattle.tbl_text.specs.Reading.{Read, read_from, IsFirstRepeat}
-use Rattle.tbl_text.proofs.Faults.{base_value-outcome, repeat_at, repeats_from, outcome}
+use Rattle.tbl_text.specs.Reading.{read_from, IsFirstRepeat}
+use Rattle.tbl_text.proofs.Faults.{base_value-outcome, repeat_at, outcome}
 
 -- the test of two keys is their equality
 same_key-true : (a b : KeyValue) → same_key a b ≡ true → a ≡ b

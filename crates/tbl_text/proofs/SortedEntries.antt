@@ -1,15 +1,14 @@
 -- Entries in order, and what their neighbours say of the rows.
-use Rattle.std.proofs.Common.{◌≡◌, ◌≢◌, ℕ, ◌+◌, ◌-◌, ◌<◌, ◌≤◌, suc, Bool, true, false, List, [], ◌∷◌, ◌++◌, length, get_or, take, map, slice_get, Option, Some, None, MatchOption, refl, sym, ap, ◌∙◌, inl, inr, arith}
+use Rattle.std.proofs.Common.{◌≡◌, ℕ, ◌+◌, ◌-◌, ◌<◌, ◌≤◌, suc, true, false, List, [], ◌∷◌, ◌++◌, length, get_or, take, map, slice_get, Option, Some, None, MatchOption, refl, ap, inl, inr, arith}
 use Rattle.std.specs.List.{enumerate_from, AllAdjacentBelow}
 use Rattle.std.proofs.lemmas.Bool.{cases_Bool, cases_lt, lt-ltb, le-ltb}
 use Rattle.std.proofs.lemmas.Option.{same_Some, slice_get_within, get_or_from_slice_get}
 use Rattle.std.proofs.lemmas.List.{get_or_default, take_more, length-take}
 use Rattle.std.proofs.lemmas.List.Sorted.{all_adjacent_more}
-use Rattle.cubit_base.specs.Table.{Row, HasDistinctKeys}
+use Rattle.cubit_base.specs.Table.{Row}
 use Rattle.tbl_text.specs.declared.base.repeats.Entry.{Entry}
 use Rattle.tbl_text.specs.declared.base.repeats.Repeat.{Repeat}
-use Rattle.tbl_text.specs.Reading.{IsFirstRepeat}
-use Rattle.tbl_text.specs.Repeats.{entry_of, entries_of, entry_cmp, has_same_key, lesser_tie, HasSameKey, HasNoTie, IsLeastTie}
+use Rattle.tbl_text.specs.Repeats.{entry_of, entries_of, has_same_key, lesser_tie, HasSameKey, HasNoTie, IsLeastTie}
 
 -- a least tie up to a place, or none
 abbrev pub LeastTie : List Entry → ℕ → Option Repeat → Type 0

@@ -1,4 +1,4 @@
-use Rattle.std.proofs.Common.{sym, inr, ◌∙◌}
+use Rattle.std.proofs.Common.{sym, inr}
 use Rattle.tbl_text.proofs.FirstRepeat.{base_value-distinct, base_value-repeat}
 use Rattle.tbl_text.proofs.base.base_of.Goals as goal
 
