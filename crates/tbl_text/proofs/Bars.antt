@@ -80,7 +80,7 @@ length-pieces : (separator b : ℕ) (bytes : List ℕ)
 length-pieces separator b [] = length-one (eqb b separator) b
 length-pieces separator b (c ∷ bytes) =
     length-cond (eqb b separator) b (pieces separator (c ∷ bytes)) _ _ _
-        (some-cond (eqb c separator) c (pieces separator bytes)) (length-pieces separator c bytes) (sum_by-cons (λ x. cond (eqb x separator) 1 0) b (c ∷ bytes))
+    (some-cond (eqb c separator) c (pieces separator bytes)) (length-pieces separator c bytes) (sum_by-cons (λ x. cond (eqb x separator) 1 0) b (c ∷ bytes))
 
 length-cond-le : (t : Bool) (b : ℕ) (parts : List (List ℕ)) (n : ℕ) → length parts ≤ n → length (cond t ([] ∷ parts) (onto_first b parts)) ≤ suc n
 length-cond-le true b parts n le = omega arith

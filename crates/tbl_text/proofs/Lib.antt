@@ -8,4 +8,6 @@ pub mod ReadLines
 pub mod RisingKeys
 pub mod SortedEntries
 pub mod SortedKeys
+pub mod Taking
+pub mod Whole
 mod WorkedRows

@@ -1,4 +1,5 @@
 pub mod Base
+pub mod Cursor
 pub mod Field
 pub mod Fields
 pub mod Line

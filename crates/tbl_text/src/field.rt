@@ -25,6 +25,7 @@ pub fn money_of(field: &[u8]) -> Option<u64>
 }
 
 /// The day number of a date from 1992-01-01 to 1998-12-31, spelled YYYY-MM-DD.
+#[inline(always)]
 pub fn date_field(field: &[u8]) -> Option<u16>
     ensures value { result ≡ date_value field.now }
     ensures within { IfSome result (λ n. n ≤ 2556) }
@@ -57,6 +58,7 @@ pub(crate) fn is_text(field: &[u8]) -> bool
     field.iter().all(|b| (b' '..=b'~').contains(b))
 }
 
+#[inline(always)]
 pub(crate) fn flag_of(field: &[u8]) -> Option<Flag>
     ensures { result ≡ flag_value field.now }
 {
@@ -68,6 +70,7 @@ pub(crate) fn flag_of(field: &[u8]) -> Option<Flag>
     }
 }
 
+#[inline(always)]
 pub(crate) fn status_of(field: &[u8]) -> Option<LineStatus>
     ensures { result ≡ status_value field.now }
 {
@@ -79,7 +82,8 @@ pub(crate) fn status_of(field: &[u8]) -> Option<LineStatus>
 }
 
 // The integer at the front, and what follows its digits.
-fn leading_integer(bytes: &[u8]) -> Option<(u64, &[u8])>
+#[inline(always)]
+pub(crate) fn leading_integer(bytes: &[u8]) -> Option<(u64, &[u8])>
     ensures value { MatchOption result
         (integer_value (leading_digits bytes.now) ≡ None)
         (λ r. (integer_value (leading_digits bytes.now) ≡ Some r.0) × (r.1.now ≡ after_digits bytes.now)) }
@@ -93,7 +97,8 @@ fn leading_integer(bytes: &[u8]) -> Option<(u64, &[u8])>
 }
 
 // How many digits stand at the front.
-fn digit_count(bytes: &[u8]) -> usize
+#[inline(always)]
+pub(crate) fn digit_count(bytes: &[u8]) -> usize
     ensures { result ≡ prefix_len is_digit bytes.now }
 {
     for (at, b) in bytes.iter().enumerate() {
@@ -104,6 +109,7 @@ fn digit_count(bytes: &[u8]) -> usize
     bytes.len()
 }
 
+#[inline(always)]
 fn number_of(digits: &[u8]) -> u64
     requires digits { AllPass is_digit digits.now }
     requires few { length digits.now ≤ 10 }
@@ -131,7 +137,8 @@ fn hundredths_of(bytes: &[u8]) -> Option<u8>
 }
 
 // The number that two digits spell.
-fn pair_of(tens: u8, ones: u8) -> Option<u8>
+#[inline(always)]
+pub(crate) fn pair_of(tens: u8, ones: u8) -> Option<u8>
     ensures value { MatchOption result ((is_digit tens && is_digit ones) ≡ false) (IsPair tens ones) }
     ensures within { IfSome result (λ n. n < 100) }
 {

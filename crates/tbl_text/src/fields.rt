@@ -45,7 +45,8 @@ pub(crate) fn judged(line: &[u8]) -> Result<(Key, Tuple), LineFault>
 }
 
 // How many fields a line has: as many as bars, and one more where no bar ends it.
-fn field_count(line: &[u8]) -> u32
+#[inline(always)]
+pub(crate) fn field_count(line: &[u8]) -> u32
     requires { length line.now ≤ 4_294_967_295 }
     ensures { result ≡ length (fields_of line.now) }
 {
@@ -53,12 +54,14 @@ fn field_count(line: &[u8]) -> u32
     if ends_in_bar(line) { bars } else { bars + 1 }
 }
 
+#[inline(always)]
 fn ends_in_bar(line: &[u8]) -> bool
     ensures { IsTrue result ↔ ((1 ≤ length line.now) × (slice_index line.now (length line.now - 1) ≡ 124)) }
 {
     matches!(line, [.., b'|'])
 }
 
+#[inline(always)]
 fn bar_count(bytes: &[u8]) -> u32
     requires { length bytes.now ≤ 4_294_967_295 }
     ensures { result ≡ count_by (λ b. b == 124) bytes.now }
@@ -137,12 +140,22 @@ fn bar_at(bytes: &[u8]) -> usize
 fn fields_value(fields: Fields<'_>) -> Result<(Key, Tuple), LineFault>
     ensures { result ≡ fields_value (listed fields.entry) }
 {
-    let order = within(1, 4_294_967_295, integer_of(fields.orderkey), LineFault::Order)?;
+    let order = within(
+        1,
+        4_294_967_295,
+        integer_of(fields.orderkey),
+        LineFault::Order,
+    )?;
     text(fields.partkey)?;
     text(fields.suppkey)?;
     let line = within(1, 7, integer_of(fields.linenumber), LineFault::Line)?;
     let qty = within(1, 50, quantity_of(fields.quantity), LineFault::Quantity)?;
-    let price = within(0, 99_999_999, money_of(fields.extendedprice), LineFault::Price)?;
+    let price = within(
+        0,
+        99_999_999,
+        money_of(fields.extendedprice),
+        LineFault::Price,
+    )?;
     let disc = within(0, 10, money_of(fields.discount), LineFault::Discount)?;
     let tax = within(0, 8, money_of(fields.tax), LineFault::Tax)?;
     let flag = flag_of(fields.returnflag).ok_or(LineFault::Flag)?;

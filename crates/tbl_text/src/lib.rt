@@ -3,6 +3,7 @@
 #![tactic(auto)]
 
 mod base;
+mod cursor;
 mod field;
 mod fields;
 mod line;

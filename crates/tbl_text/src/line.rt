@@ -2,6 +2,7 @@
 ghost use Rattle.std.specs.Prelude.{◌≡◌, ◌≤◌, length};
 ghost use Rattle.tbl_text.specs.Line.{line_value};
 
+use crate::cursor::common;
 use crate::fields::judged;
 use cubit_base::{Key, Tuple};
 
@@ -38,5 +39,8 @@ pub fn line_of(bytes: &[u8]) -> Result<(Key, Tuple), LineFault>
     requires { length bytes.now ≤ 4_294_967_295 }
     ensures { result ≡ line_value bytes.now }
 {
-    judged(bytes)
+    match common(bytes) {
+        Some(value) => Ok(value),
+        None => judged(bytes),
+    }
 }

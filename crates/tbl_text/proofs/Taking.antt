@@ -1,0 +1,156 @@
+-- What a reader takes from the front of a line.
+use Rattle.std.proofs.Common.{◌≡◌, ℕ, suc, ◌+◌, ◌-◌, ◌*◌, ◌<◌, ◌≤◌, Bool, true, false, cond, ◌&&◌, eqb, leb, List, [], ◌∷◌, ◌++◌, length, get_or, take, drop, Option, None, Some, refl, sym, ap, subst, ◌∙◌, append_assoc, ◌⊎◌, inl, inr, arith}
+use Rattle.std.specs.Prelude.{IfSome}
+use Rattle.std.specs.Bool.{OnTrue}
+use Rattle.std.specs.List.{All, AllPass, list_all, prefix_len}
+use Rattle.std.proofs.lemmas.Bool.{and_parts, and_from, leb-true, le-leb, ne_eqb, eqb-true}
+use Rattle.std.proofs.lemmas.List.{append-nil, drop_at, take-append-drop}
+use Rattle.std.proofs.lemmas.List.Elements.{All-from_recursion, All-nil, All-cons, All-head, All-tail, All-append}
+use Rattle.std.proofs.lemmas.List.Folds.{length-prefix_len}
+use Rattle.std.proofs.lemmas.List.Sums.{take_while-cons, AllPass-from_list_all, list_all-from_AllPass}
+use Rattle.tbl_text.specs.Cursor.{Takes, IsTail}
+use Rattle.tbl_text.specs.Field.{is_digit, IsPair, leading_digits, after_digits, integer_value, hundredths_value, money_value, is_no_decimals, quantity_value, date_value, is_text_byte, is_text}
+use Rattle.tbl_text.specs.Lines.{onto_first, pieces, fields_of}
+use Rattle.tbl_text.proofs.Bars.{IsFree, pieces-separator}
+use Rattle.tbl_text.proofs.Digits.{AllPass-leading_digits}
+
+-- a field with no bar is taken where a bar follows it
+pub takes_field : {A : Type 0} (read : List ℕ → A) (old field new : List ℕ) (value : A) → old ≡ field ++ 124 ∷ new → IsFree 124 field → read field ≡ value → Takes read old new value
+takes_field read old field new value cut free reads =
+    record { field = field; cut = ap (pieces 124) cut ∙ pieces-separator 124 field new free; reads = reads }
+
+-- ---- digits
+
+digit_no_bar : (b : ℕ) → is_digit b ≡ true → eqb b 124 ≡ false
+digit_no_bar b digit = ne_eqb b 124 (λ bar. absurd (omega (arith, leb-true b 57 (and_parts (leb 48 b) (leb b 57) digit).1)))
+
+digit_text : (b : ℕ) → is_digit b ≡ true → is_text_byte b ≡ true
+digit_text b digit =
+    let parts = and_parts (leb 48 b) (leb b 57) digit in
+    let low = leb-true 48 b parts.0 in
+    let high = leb-true b 57 parts.1 in
+    and_from (leb 32 b) (leb b 126) (le-leb 32 b (omega arith)) (le-leb b 126 (omega arith))
+
+digits_free : (digits : List ℕ) → AllPass is_digit digits → IsFree 124 digits
+digits_free digits all k d below = digit_no_bar (get_or digits k d) (all k d below)
+
+numerals_free : (digits : List ℕ) → list_all is_digit digits ≡ true → IsFree 124 digits
+numerals_free digits all = digits_free digits (AllPass-from_list_all is_digit digits all)
+
+hyphen_free : (b : ℕ) → eqb b 45 ≡ true → eqb b 124 ≡ false
+hyphen_free b hyphen = ne_eqb b 124 (λ bar. absurd (omega (arith, eqb-true b 45 hyphen)))
+
+-- digits are text
+pub takes_digits : (old field new : List ℕ) (count : ℕ) → count ≡ prefix_len is_digit old → field ≡ take count old → old ≡ field ++ 124 ∷ new → Takes is_text old new true
+takes_digits old field new count many front cut =
+    let is : field ≡ leading_digits old = front ∙ ap (λ n. take n old) many in
+    let all : AllPass is_digit field = rw is (AllPass-leading_digits old) in
+    takes_field is_text old field new true cut (digits_free field all)
+    (list_all-from_AllPass is_text_byte field (λ k d below. digit_text (get_or field k d) (all k d below)))
+
+-- digits, where no digit follows them, are the digits at the front
+leading_digits-append : (digits others : List ℕ) → AllPass is_digit digits → leading_digits others ≡ [] → leading_digits (digits ++ others) ≡ digits
+leading_digits-append [] others all stop = stop
+leading_digits-append (d ∷ digits) others all stop =
+    let first = All-head (λ b. is_digit b ≡ true) d digits all in
+    let rest = All-tail (λ b. is_digit b ≡ true) d digits all in
+    take_while-cons is_digit d (digits ++ others) ∙ rw (first, leading_digits-append digits others rest stop) refl
+
+after_digits-append : (digits others : List ℕ) → AllPass is_digit digits → leading_digits others ≡ [] → after_digits (digits ++ others) ≡ others
+after_digits-append digits others all stop =
+    ap (λ front. drop (length front) (digits ++ others)) (leading_digits-append digits others all stop) ∙ drop_at digits others (length digits) refl
+
+leading-after : (bytes : List ℕ) → bytes ≡ leading_digits bytes ++ after_digits bytes
+leading-after bytes =
+    sym (take-append-drop (prefix_len is_digit bytes) bytes) ∙ ap (λ n. leading_digits bytes ++ drop n bytes) (sym (length-prefix_len is_digit bytes))
+
+-- digits at the front and what decimals follow them
+takes_number : {A : Type 0} (read : List ℕ → A) (old rest decimals new : List ℕ) (value : A) → rest ≡ after_digits old → rest ≡ decimals ++ 124 ∷ new → IsFree 124 decimals
+    → read (leading_digits old ++ decimals) ≡ value → Takes read old new value
+takes_number read old rest decimals new value is_rest cut free reads =
+    let all = AllPass-leading_digits old in
+    let whole : old ≡ (leading_digits old ++ decimals) ++ 124 ∷ new =
+    leading-after old ∙ ap (λ r. leading_digits old ++ r) (sym is_rest ∙ cut) ∙ sym (append_assoc (leading_digits old) decimals (124 ∷ new)) in
+    takes_field read old (leading_digits old ++ decimals) new value whole
+    (All-append (λ b. eqb b 124 ≡ false) (leading_digits old) decimals (digits_free (leading_digits old) all) free) reads
+
+pub takes_integer : (old rest new : List ℕ) (n : ℕ) → integer_value (leading_digits old) ≡ Some n → rest ≡ after_digits old → rest ≡ 124 ∷ new → Takes integer_value old new (Some n)
+takes_integer old rest new n is is_rest cut =
+    takes_number integer_value old rest [] new (Some n) is_rest cut (All-nil (λ b. eqb b 124 ≡ false)) (ap integer_value (append-nil (leading_digits old)) ∙ is)
+
+-- with decimals that say nothing
+takes_zeros : (old rest decimals new : List ℕ) (n : ℕ) → integer_value (leading_digits old) ≡ Some n → rest ≡ after_digits old → rest ≡ decimals ++ 124 ∷ new → IsFree 124 decimals
+    → leading_digits decimals ≡ [] → is_no_decimals decimals ≡ true → Takes quantity_value old new (Some n)
+takes_zeros old rest decimals new n is is_rest cut free stop none =
+    let all = AllPass-leading_digits old in
+    let reads : quantity_value (leading_digits old ++ decimals) ≡ Some n =
+    rw (after_digits-append (leading_digits old) decimals all stop, leading_digits-append (leading_digits old) decimals all stop, none) is in
+    takes_number quantity_value old rest decimals new (Some n) is_rest cut free reads
+
+pub takes_quantity : (old rest after new : List ℕ) (n : ℕ) → integer_value (leading_digits old) ≡ Some n → rest ≡ after_digits old → (rest ≡ after) ⊎ (rest ≡ 46 ∷ 48 ∷ 48 ∷ after) → after ≡ 124 ∷ new
+    → Takes quantity_value old new (Some n)
+takes_quantity old rest after new n is is_rest (inl none) cut =
+    takes_zeros old rest [] new n is is_rest (none ∙ cut) (All-nil (λ b. eqb b 124 ≡ false)) refl refl
+takes_quantity old rest after new n is is_rest (inr zeros) cut =
+    takes_zeros old rest (46 ∷ 48 ∷ 48 ∷ []) new n is is_rest (zeros ∙ ap (λ r. 46 ∷ 48 ∷ 48 ∷ r) cut)
+    (All-from_recursion (λ b. eqb b 124 ≡ false) (46 ∷ 48 ∷ 48 ∷ []) (refl, (refl, (refl, tt)))) refl refl
+
+hundredths_value-pair : (tens ones n : ℕ) → IsPair tens ones n → hundredths_value (46 ∷ tens ∷ ones ∷ []) ≡ Some n
+hundredths_value-pair tens ones n pair = rw (pair.tens_digit, pair.ones_digit, pair.value) refl
+
+-- with two decimals
+pub takes_money : (old rest after new : List ℕ) (n tens ones hundredths : ℕ) → integer_value (leading_digits old) ≡ Some n → rest ≡ after_digits old → rest ≡ 46 ∷ tens ∷ ones ∷ after
+    → IsPair tens ones hundredths → after ≡ 124 ∷ new → Takes money_value old new (Some (n * 100 + hundredths))
+takes_money old rest after new n tens ones hundredths is is_rest behind pair cut =
+    let decimals = 46 ∷ tens ∷ ones ∷ [] in
+    let all = AllPass-leading_digits old in
+    let free : IsFree 124 decimals = All-from_recursion (λ b. eqb b 124 ≡ false) decimals (refl, (digit_no_bar tens pair.tens_digit, (digit_no_bar ones pair.ones_digit, tt))) in
+    let reads : money_value (leading_digits old ++ decimals) ≡ Some (n * 100 + hundredths) =
+    rw (after_digits-append (leading_digits old) decimals all refl, leading_digits-append (leading_digits old) decimals all refl, is, hundredths_value-pair tens ones hundredths pair) refl in
+    takes_number money_value old rest decimals new (Some (n * 100 + hundredths)) is_rest (behind ∙ ap (λ r. 46 ∷ tens ∷ ones ∷ r) cut) free reads
+
+-- ---- dates
+
+when_some : (t : Bool) (o : Option ℕ) (n : ℕ) → cond t o None ≡ Some n → t ≡ true
+when_some true o n is = refl
+when_some false o n is = absurd cc
+
+date_free : (field : List ℕ) (day : ℕ) → date_value field ≡ Some day → IsFree 124 field
+date_free (a ∷ b ∷ c ∷ d ∷ hyphen ∷ e ∷ f ∷ dash ∷ g ∷ h ∷ []) day is =
+    let year = a ∷ b ∷ c ∷ d ∷ [] in
+    let month = e ∷ f ∷ [] in
+    let date = g ∷ h ∷ [] in
+    let holds = when_some ((((eqb hyphen 45 && eqb dash 45) && list_all is_digit year) && list_all is_digit month) && list_all is_digit date) _ day is in
+    let upto_month = and_parts _ _ holds in
+    let upto_year = and_parts _ _ upto_month.0 in
+    let hyphens = and_parts _ _ upto_year.0 in
+    let both = and_parts (eqb hyphen 45) (eqb dash 45) hyphens.0 in
+    let free : ℕ → Type 0 = λ b. eqb b 124 ≡ false in
+    All-append free year (hyphen ∷ month ++ dash ∷ date) (numerals_free year hyphens.1)
+    (All-cons free hyphen (month ++ dash ∷ date) (hyphen_free hyphen both.0)
+    (All-append free month (dash ∷ date) (numerals_free month upto_year.1)
+    (All-cons free dash date (hyphen_free dash both.1) (numerals_free date upto_month.1))))
+date_free field day is = absurd cc
+
+pub takes_date : (old field new : List ℕ) (found : Option ℕ) → old ≡ field ++ 124 ∷ new → found ≡ date_value field → IfSome found (λ day. Takes date_value old new (Some day))
+takes_date old field new None cut is = tt
+takes_date old field new (Some day) cut is = takes_field date_value old field new (Some day) cut (date_free field day (sym is)) (sym is)
+
+-- ---- the end of a line
+
+texts-cond : (t : Bool) (b : ℕ) (parts : List (List ℕ)) → is_text_byte b ≡ true → list_all is_text parts ≡ true → list_all is_text (cond t ([] ∷ parts) (onto_first b parts)) ≡ true
+texts-cond true b parts byte texts = texts
+texts-cond false b [] byte texts = rw byte refl
+texts-cond false b (part ∷ parts) byte texts = rw byte texts
+
+-- the pieces of text are text
+texts-pieces : (bytes : List ℕ) → is_text bytes ≡ true → list_all is_text (pieces 124 bytes) ≡ true
+texts-pieces [] text = refl
+texts-pieces (b ∷ bytes) text =
+    let parts = and_parts (is_text_byte b) (is_text bytes) text in
+    texts-cond (eqb b 124) b (pieces 124 bytes) parts.0 (texts-pieces bytes parts.1)
+
+pub is_tail : (bytes : List ℕ) (texts : Bool) → length (fields_of bytes) ≡ 5 → texts ≡ is_text bytes → OnTrue texts (IsTail bytes)
+is_tail bytes false count is = tt
+is_tail [] true count is = absurd (omega arith)
+is_tail (b ∷ bytes) true count is = record { count = count; texts = texts-pieces (b ∷ bytes) (sym is) }

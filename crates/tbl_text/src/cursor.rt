@@ -1,0 +1,260 @@
+//! The common spelling of a line, read in one pass. What this reader takes is the line's value; it gives up at the first
+//! thing that is odd, also at spellings that are accepted and rare.
+ghost use Rattle.std.specs.Prelude.{◌≡◌, ℕ, ◌⊎◌, ◌<◌, ◌≤◌, ◌^◌, ◌∷◌, ◌++◌, ◌↔◌, true, take, length, slice_index, IfSome, IsTrue};
+ghost use Rattle.std.specs.Bool.{OnTrue};
+ghost use Rattle.tbl_text.specs.Cursor.{Takes, IsTail};
+ghost use Rattle.tbl_text.specs.Field.{IsPair, integer_value, money_value, quantity_value, date_value, flag_value, status_value, is_text, is_text_byte};
+ghost use Rattle.tbl_text.specs.Line.{line_value};
+
+use crate::field::{date_field, digit_count, flag_of, leading_integer, pair_of, status_of};
+use crate::fields::field_count;
+use cubit_base::{Flag, Key, LineStatus, Tuple};
+
+/// What is left of a line.
+#[derive(Drop)]
+struct Cursor<'a> {
+    rest: &'a [u8],
+}
+
+impl<'a> Cursor<'a> {
+    // L_ORDERKEY.
+    #[inline(always)]
+    fn order(&mut self) -> Option<u32>
+        ensures value { IfSome result (λ n. Takes integer_value self.old.rest.now self.new.rest.now (Some n)) }
+        ensures range { IfSome result (λ n. 1 ≤ n) }
+    {
+        match self.integer()? {
+            n @ 1..=4_294_967_295 => Some(n as u32),
+            _ => None,
+        }
+    }
+
+    // L_LINENUMBER.
+    #[inline(always)]
+    fn line(&mut self) -> Option<u8>
+        ensures value { IfSome result (λ n. Takes integer_value self.old.rest.now self.new.rest.now (Some n)) }
+        ensures range { IfSome result (λ n. (1 ≤ n) × (n ≤ 7)) }
+    {
+        match self.integer()? {
+            n @ 1..=7 => Some(n as u8),
+            _ => None,
+        }
+    }
+
+    // L_QUANTITY.
+    #[inline(always)]
+    fn quantity(&mut self) -> Option<u8>
+        ensures value { IfSome result (λ n. Takes quantity_value self.old.rest.now self.new.rest.now (Some n)) }
+        ensures range { IfSome result (λ n. (1 ≤ n) × (n ≤ 50)) }
+    {
+        match self.whole()? {
+            n @ 1..=50 => Some(n as u8),
+            _ => None,
+        }
+    }
+
+    // L_EXTENDEDPRICE.
+    #[inline(always)]
+    fn price(&mut self) -> Option<u32>
+        ensures value { IfSome result (λ n. Takes money_value self.old.rest.now self.new.rest.now (Some n)) }
+        ensures range { IfSome result (λ n. n ≤ 99_999_999) }
+    {
+        match self.money()? {
+            n @ 0..=99_999_999 => Some(n as u32),
+            _ => None,
+        }
+    }
+
+    // L_DISCOUNT.
+    #[inline(always)]
+    fn discount(&mut self) -> Option<u8>
+        ensures value { IfSome result (λ n. Takes money_value self.old.rest.now self.new.rest.now (Some n)) }
+        ensures range { IfSome result (λ n. n ≤ 10) }
+    {
+        match self.money()? {
+            n @ 0..=10 => Some(n as u8),
+            _ => None,
+        }
+    }
+
+    // L_TAX.
+    #[inline(always)]
+    fn tax(&mut self) -> Option<u8>
+        ensures value { IfSome result (λ n. Takes money_value self.old.rest.now self.new.rest.now (Some n)) }
+        ensures range { IfSome result (λ n. n ≤ 8) }
+    {
+        match self.money()? {
+            n @ 0..=8 => Some(n as u8),
+            _ => None,
+        }
+    }
+
+    // L_RETURNFLAG.
+    #[inline(always)]
+    fn flag(&mut self) -> Option<Flag>
+        ensures { IfSome result (λ flag. Takes flag_value self.old.rest.now self.new.rest.now (Some flag)) }
+    {
+        flag_of(self.fixed(1)?)
+    }
+
+    // L_LINESTATUS.
+    #[inline(always)]
+    fn status(&mut self) -> Option<LineStatus>
+        ensures { IfSome result (λ status. Takes status_value self.old.rest.now self.new.rest.now (Some status)) }
+    {
+        status_of(self.fixed(1)?)
+    }
+
+    // L_SHIPDATE.
+    #[inline(always)]
+    fn date(&mut self) -> Option<u16>
+        ensures value { IfSome result (λ n. Takes date_value self.old.rest.now self.new.rest.now (Some n)) }
+        ensures range { IfSome result (λ n. n ≤ 2556) }
+    {
+        date_field(self.fixed(10)?)
+    }
+
+    // An integer.
+    #[inline(always)]
+    fn integer(&mut self) -> Option<u64>
+        ensures { IfSome result (λ n. Takes integer_value self.old.rest.now self.new.rest.now (Some n)) }
+    {
+        let (number, rest) = leading_integer(self.rest)?;
+        self.rest = past_bar(rest)?;
+        Some(number)
+    }
+
+    // An integer with no decimals, or with `.00`.
+    #[inline(always)]
+    fn whole(&mut self) -> Option<u64>
+        ensures { IfSome result (λ n. Takes quantity_value self.old.rest.now self.new.rest.now (Some n)) }
+    {
+        let (number, rest) = leading_integer(self.rest)?;
+        self.rest = past_bar(past_zeros(rest))?;
+        Some(number)
+    }
+
+    // Money with two decimals.
+    #[inline(always)]
+    fn money(&mut self) -> Option<u64>
+        ensures { IfSome result (λ n. Takes money_value self.old.rest.now self.new.rest.now (Some n)) }
+    {
+        let (whole, rest) = leading_integer(self.rest)?;
+        let (hundredths, rest) = hundredths(rest)?;
+        self.rest = past_bar(rest)?;
+        Some(whole * 100 + u64::from(hundredths))
+    }
+
+    // Text that is digits alone.
+    #[inline(always)]
+    fn digits(&mut self) -> Option<()>
+        ensures { IfSome result (λ _. Takes is_text self.old.rest.now self.new.rest.now true) }
+    {
+        let count = digit_count(self.rest);
+        self.fixed(count)?;
+        Some(())
+    }
+
+    // So many bytes before a bar.
+    #[inline(always)]
+    fn fixed(&mut self, len: usize) -> Option<&'a [u8]>
+        ensures cut { IfSome result (λ field. self.old.rest.now ≡ field.now ++ 124 ∷ self.new.rest.now) }
+        ensures field { IfSome result (λ field. field.now ≡ take len self.old.rest.now) }
+    {
+        if self.rest.len() <= len {
+            return None;
+        }
+        let (field, rest) = self.rest.split_at(len);
+        self.rest = past_bar(rest)?;
+        Some(field)
+    }
+}
+
+// What follows the bar at the front.
+#[inline(always)]
+fn past_bar(bytes: &[u8]) -> Option<&[u8]>
+    ensures { IfSome result (λ rest. bytes.now ≡ 124 ∷ rest.now) }
+{
+    match bytes {
+        [b'|', rest @ ..] => Some(rest),
+        _ => None,
+    }
+}
+
+// What follows `.00` at the front, or all where it does not stand there.
+#[inline(always)]
+fn past_zeros(bytes: &[u8]) -> &[u8]
+    ensures { (bytes.now ≡ result.now) ⊎ (bytes.now ≡ 46 ∷ 48 ∷ 48 ∷ result.now) }
+{
+    match bytes {
+        [b'.', b'0', b'0', rest @ ..] => rest,
+        _ => bytes,
+    }
+}
+
+// A point and two decimals at the front, and what follows them.
+#[inline(always)]
+fn hundredths(bytes: &[u8]) -> Option<(u8, &[u8])>
+    ensures value { IfSome result (λ r. (tens : ℕ) × (ones : ℕ) × (bytes.now ≡ 46 ∷ tens ∷ ones ∷ r.1.now) × IsPair tens ones r.0) }
+    ensures within { IfSome result (λ r. r.0 < 100) }
+{
+    match bytes {
+        [b'.', tenths, ones, rest @ ..] => Some((pair_of(*tenths, *ones)?, rest)),
+        _ => None,
+    }
+}
+
+/// The key and the tuple of a line in the common spelling.
+#[inline(always)]
+pub(crate) fn common(line: &[u8]) -> Option<(Key, Tuple)>
+    ensures { IfSome result (λ value. line_value line.now ≡ Ok value) }
+{
+    let mut cursor = Cursor { rest: line };
+    let order = cursor.order()?;
+    cursor.digits()?;
+    cursor.digits()?;
+    let line = cursor.line()?;
+    let qty = cursor.quantity()?;
+    let price = cursor.price()?;
+    let disc = cursor.discount()?;
+    let tax = cursor.tax()?;
+    let flag = cursor.flag()?;
+    let status = cursor.status()?;
+    let day = cursor.date()?;
+    if !is_tail(cursor.rest) {
+        return None;
+    }
+    let key = Key { order, line };
+    let tuple = Tuple {
+        price,
+        day,
+        qty,
+        disc,
+        tax,
+        flag,
+        status,
+    };
+    Some((key, tuple))
+}
+
+// Whether some bytes are five fields of text, and few enough to be counted at once.
+#[inline(always)]
+fn is_tail(rest: &[u8]) -> bool
+    ensures { OnTrue result (IsTail rest.now) }
+{
+    if rest.len() > 255 {
+        return false;
+    }
+    field_count(rest) == 5 && is_all_text(rest)
+}
+
+#[inline(always)]
+fn is_all_text(bytes: &[u8]) -> bool
+    ensures { result ≡ is_text bytes.now }
+{
+    let mut holds = true;
+    for b in bytes {
+        holds &= b' ' <= *b && *b <= b'~';
+    }
+    holds
+}
