@@ -1,7 +1,6 @@
 -- What a reader takes from the front of a line.
-use Rattle.std.proofs.Common.{◌≡◌, ℕ, suc, ◌+◌, ◌-◌, ◌*◌, ◌<◌, ◌≤◌, Bool, true, false, cond, ◌&&◌, eqb, leb, List, [], ◌∷◌, ◌++◌, length, get_or, take, drop, Option, None, Some, refl, sym, ap, subst, ◌∙◌, append_assoc, ◌⊎◌, inl, inr, arith}
+use Rattle.std.proofs.Common.{◌≡◌, ℕ, suc, ◌+◌, ◌-◌, ◌*◌, ◌<◌, ◌≤◌, Bool, true, false, cond, ◌&&◌, eqb, leb, List, [], ◌∷◌, ◌++◌, length, get_or, take, drop, count_by, Option, None, Some, refl, sym, ap, subst, ◌∙◌, append_assoc, ◌⊎◌, inl, inr, arith}
 use Rattle.std.specs.Prelude.{IfSome}
-use Rattle.std.specs.Bool.{OnTrue}
 use Rattle.std.specs.List.{All, AllPass, list_all, prefix_len}
 use Rattle.std.proofs.lemmas.Bool.{and_parts, and_from, leb-true, le-leb, ne_eqb, eqb-true}
 use Rattle.std.proofs.lemmas.List.{append-nil, drop_at, take-append-drop}
@@ -11,7 +10,7 @@ use Rattle.std.proofs.lemmas.List.Sums.{take_while-cons, AllPass-from_list_all, 
 use Rattle.tbl_text.specs.Cursor.{Takes, IsTail}
 use Rattle.tbl_text.specs.Field.{is_digit, IsPair, leading_digits, after_digits, integer_value, hundredths_value, money_value, is_no_decimals, quantity_value, date_value, is_text_byte, is_text}
 use Rattle.tbl_text.specs.Lines.{onto_first, pieces, fields_of}
-use Rattle.tbl_text.proofs.Bars.{IsFree, pieces-separator}
+use Rattle.tbl_text.proofs.Bars.{IsFree, pieces-separator, length-fields_of-ended, length-fields_of-open}
 use Rattle.tbl_text.proofs.Digits.{AllPass-leading_digits}
 
 -- a field with no bar is taken where a bar follows it
@@ -150,7 +149,13 @@ texts-pieces (b ∷ bytes) text =
     let parts = and_parts (is_text_byte b) (is_text bytes) text in
     texts-cond (eqb b 124) b (pieces 124 bytes) parts.0 (texts-pieces bytes parts.1)
 
-pub is_tail : (bytes : List ℕ) (texts : Bool) → length (fields_of bytes) ≡ 5 → texts ≡ is_text bytes → OnTrue texts (IsTail bytes)
-is_tail bytes false count is = tt
-is_tail [] true count is = absurd (omega arith)
-is_tail (b ∷ bytes) true count is = record { count = count; texts = texts-pieces (b ∷ bytes) (sym is) }
+five_texts : (bytes : List ℕ) → length (fields_of bytes) ≡ 5 → is_text bytes ≡ true → IsTail bytes
+five_texts [] count text = absurd (omega arith)
+five_texts (b ∷ bytes) count text = record { count = count; texts = texts-pieces (b ∷ bytes) text }
+
+-- five fields, by the bars and whether one of them ends the bytes
+pub tail_ended : (bytes : List ℕ) (bars : ℕ) → (1 ≤ length bytes) × (get_or bytes (length bytes - 1) 0 ≡ 124) → bars ≡ count_by (λ b. eqb b 124) bytes → is_text bytes ≡ true → bars ≡ 5 → IsTail bytes
+tail_ended bytes bars ended count text five = five_texts bytes (sym (length-fields_of-ended bytes ended) ∙ sym count ∙ five) text
+
+pub tail_open : (bytes : List ℕ) (bars : ℕ) → ((1 ≤ length bytes) × (get_or bytes (length bytes - 1) 0 ≡ 124) → ⊥) → bars ≡ count_by (λ b. eqb b 124) bytes → is_text bytes ≡ true → bars ≡ 4 → IsTail bytes
+tail_open bytes bars open' count text four = five_texts bytes (sym (length-fields_of-open bytes open') ∙ ap (λ n. n + 1) (sym count ∙ four)) text

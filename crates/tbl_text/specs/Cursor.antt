@@ -1,6 +1,7 @@
 -- What a reader takes from the front of a line.
-use Rattle.std.specs.Prelude.{◌≡◌, ℕ, true, List, ◌∷◌, length}
+use Rattle.std.specs.Prelude.{◌≡◌, ℕ, true, List, ◌∷◌, length, Option, Some, IfSome}
 use Rattle.std.specs.List.{list_all}
+use Rattle.tbl_text.specs.declared.cursor.Cursor.{Cursor}
 use Rattle.tbl_text.specs.Field.{is_text}
 use Rattle.tbl_text.specs.Lines.{pieces}
 
@@ -9,6 +10,10 @@ pub record Takes {A : Type 0} (read : List ℕ → A) (old new : List ℕ) (valu
   pub field : List ℕ
   pub cut : pieces 124 old ≡ field ∷ pieces 124 new
   pub reads : read field ≡ value
+
+-- what was found, if anything, is the value of the field at the front, which the cursor has passed
+abbrev pub Finds : {A : Type 0} → (List ℕ → Option A) → Cursor → Cursor → Option A → Type 0
+Finds read old new found = IfSome found (λ value. Takes read old.rest.now new.rest.now (Some value))
 
 -- the bytes are five fields of text
 pub record IsTail (bytes : List ℕ) : Type 0 where

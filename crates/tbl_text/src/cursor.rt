@@ -1,13 +1,13 @@
 //! The common spelling of a line, read in one pass. What this reader takes is the line's value; it gives up at the first
 //! thing that is odd, also at spellings that are accepted and rare.
-ghost use Rattle.std.specs.Prelude.{◌≡◌, ℕ, ◌⊎◌, ◌<◌, ◌≤◌, ◌^◌, ◌∷◌, ◌++◌, ◌↔◌, true, take, length, slice_index, IfSome, IsTrue};
+ghost use Rattle.std.specs.Prelude.{◌≡◌, ℕ, ◌⊎◌, ◌<◌, ◌≤◌, ◌^◌, ◌∷◌, ◌++◌, ◌==◌, count_by, true, take, length, IfSome};
 ghost use Rattle.std.specs.Bool.{OnTrue};
-ghost use Rattle.tbl_text.specs.Cursor.{Takes, IsTail};
+ghost use Rattle.tbl_text.specs.Cursor.{Takes, Finds, IsTail};
 ghost use Rattle.tbl_text.specs.Field.{IsPair, integer_value, money_value, quantity_value, date_value, flag_value, status_value, is_text, is_text_byte};
 ghost use Rattle.tbl_text.specs.Line.{line_value};
 
 use crate::field::{date_field, digit_count, flag_of, leading_integer, pair_of, status_of};
-use crate::fields::field_count;
+use crate::fields::ends_in_bar;
 use cubit_base::{Flag, Key, LineStatus, Tuple};
 
 /// What is left of a line.
@@ -20,7 +20,7 @@ impl<'a> Cursor<'a> {
     // L_ORDERKEY.
     #[inline(always)]
     fn order(&mut self) -> Option<u32>
-        ensures value { IfSome result (λ n. Takes integer_value self.old.rest.now self.new.rest.now (Some n)) }
+        ensures value { Finds integer_value self.old self.new result }
         ensures range { IfSome result (λ n. 1 ≤ n) }
     {
         match self.integer()? {
@@ -32,7 +32,7 @@ impl<'a> Cursor<'a> {
     // L_LINENUMBER.
     #[inline(always)]
     fn line(&mut self) -> Option<u8>
-        ensures value { IfSome result (λ n. Takes integer_value self.old.rest.now self.new.rest.now (Some n)) }
+        ensures value { Finds integer_value self.old self.new result }
         ensures range { IfSome result (λ n. (1 ≤ n) × (n ≤ 7)) }
     {
         match self.integer()? {
@@ -44,7 +44,7 @@ impl<'a> Cursor<'a> {
     // L_QUANTITY.
     #[inline(always)]
     fn quantity(&mut self) -> Option<u8>
-        ensures value { IfSome result (λ n. Takes quantity_value self.old.rest.now self.new.rest.now (Some n)) }
+        ensures value { Finds quantity_value self.old self.new result }
         ensures range { IfSome result (λ n. (1 ≤ n) × (n ≤ 50)) }
     {
         match self.whole()? {
@@ -56,7 +56,7 @@ impl<'a> Cursor<'a> {
     // L_EXTENDEDPRICE.
     #[inline(always)]
     fn price(&mut self) -> Option<u32>
-        ensures value { IfSome result (λ n. Takes money_value self.old.rest.now self.new.rest.now (Some n)) }
+        ensures value { Finds money_value self.old self.new result }
         ensures range { IfSome result (λ n. n ≤ 99_999_999) }
     {
         match self.money()? {
@@ -68,7 +68,7 @@ impl<'a> Cursor<'a> {
     // L_DISCOUNT.
     #[inline(always)]
     fn discount(&mut self) -> Option<u8>
-        ensures value { IfSome result (λ n. Takes money_value self.old.rest.now self.new.rest.now (Some n)) }
+        ensures value { Finds money_value self.old self.new result }
         ensures range { IfSome result (λ n. n ≤ 10) }
     {
         match self.money()? {
@@ -80,7 +80,7 @@ impl<'a> Cursor<'a> {
     // L_TAX.
     #[inline(always)]
     fn tax(&mut self) -> Option<u8>
-        ensures value { IfSome result (λ n. Takes money_value self.old.rest.now self.new.rest.now (Some n)) }
+        ensures value { Finds money_value self.old self.new result }
         ensures range { IfSome result (λ n. n ≤ 8) }
     {
         match self.money()? {
@@ -92,7 +92,7 @@ impl<'a> Cursor<'a> {
     // L_RETURNFLAG.
     #[inline(always)]
     fn flag(&mut self) -> Option<Flag>
-        ensures { IfSome result (λ flag. Takes flag_value self.old.rest.now self.new.rest.now (Some flag)) }
+        ensures { Finds flag_value self.old self.new result }
     {
         flag_of(self.fixed(1)?)
     }
@@ -100,7 +100,7 @@ impl<'a> Cursor<'a> {
     // L_LINESTATUS.
     #[inline(always)]
     fn status(&mut self) -> Option<LineStatus>
-        ensures { IfSome result (λ status. Takes status_value self.old.rest.now self.new.rest.now (Some status)) }
+        ensures { Finds status_value self.old self.new result }
     {
         status_of(self.fixed(1)?)
     }
@@ -108,7 +108,7 @@ impl<'a> Cursor<'a> {
     // L_SHIPDATE.
     #[inline(always)]
     fn date(&mut self) -> Option<u16>
-        ensures value { IfSome result (λ n. Takes date_value self.old.rest.now self.new.rest.now (Some n)) }
+        ensures value { Finds date_value self.old self.new result }
         ensures range { IfSome result (λ n. n ≤ 2556) }
     {
         date_field(self.fixed(10)?)
@@ -117,7 +117,7 @@ impl<'a> Cursor<'a> {
     // An integer.
     #[inline(always)]
     fn integer(&mut self) -> Option<u64>
-        ensures { IfSome result (λ n. Takes integer_value self.old.rest.now self.new.rest.now (Some n)) }
+        ensures { Finds integer_value self.old self.new result }
     {
         let (number, rest) = leading_integer(self.rest)?;
         self.rest = past_bar(rest)?;
@@ -127,7 +127,7 @@ impl<'a> Cursor<'a> {
     // An integer with no decimals, or with `.00`.
     #[inline(always)]
     fn whole(&mut self) -> Option<u64>
-        ensures { IfSome result (λ n. Takes quantity_value self.old.rest.now self.new.rest.now (Some n)) }
+        ensures { Finds quantity_value self.old self.new result }
     {
         let (number, rest) = leading_integer(self.rest)?;
         self.rest = past_bar(past_zeros(rest))?;
@@ -137,7 +137,7 @@ impl<'a> Cursor<'a> {
     // Money with two decimals.
     #[inline(always)]
     fn money(&mut self) -> Option<u64>
-        ensures { IfSome result (λ n. Takes money_value self.old.rest.now self.new.rest.now (Some n)) }
+        ensures { Finds money_value self.old self.new result }
     {
         let (whole, rest) = leading_integer(self.rest)?;
         let (hundredths, rest) = hundredths(rest)?;
@@ -148,7 +148,8 @@ impl<'a> Cursor<'a> {
     // Text that is digits alone.
     #[inline(always)]
     fn digits(&mut self) -> Option<()>
-        ensures { IfSome result (λ _. Takes is_text self.old.rest.now self.new.rest.now true) }
+        ensures { IfSome result (λ _.
+            Takes is_text self.old.rest.now self.new.rest.now true) }
     {
         let count = digit_count(self.rest);
         self.fixed(count)?;
@@ -195,7 +196,8 @@ fn past_zeros(bytes: &[u8]) -> &[u8]
 // A point and two decimals at the front, and what follows them.
 #[inline(always)]
 fn hundredths(bytes: &[u8]) -> Option<(u8, &[u8])>
-    ensures value { IfSome result (λ r. (tens : ℕ) × (ones : ℕ) × (bytes.now ≡ 46 ∷ tens ∷ ones ∷ r.1.now) × IsPair tens ones r.0) }
+    ensures value { IfSome result (λ r. (tens : ℕ) × (ones : ℕ)
+        × (bytes.now ≡ 46 ∷ tens ∷ ones ∷ r.1.now) × IsPair tens ones r.0) }
     ensures within { IfSome result (λ r. r.0 < 100) }
 {
     match bytes {
@@ -237,24 +239,30 @@ pub(crate) fn common(line: &[u8]) -> Option<(Key, Tuple)>
     Some((key, tuple))
 }
 
-// Whether some bytes are five fields of text, and few enough to be counted at once.
+// Whether some bytes are five fields of text, and few enough for their bars to be counted in a byte.
 #[inline(always)]
-fn is_tail(rest: &[u8]) -> bool
-    ensures { OnTrue result (IsTail rest.now) }
+fn is_tail(bytes: &[u8]) -> bool
+    ensures { OnTrue result (IsTail bytes.now) }
 {
-    if rest.len() > 255 {
+    if bytes.len() > 255 {
         return false;
     }
-    field_count(rest) == 5 && is_all_text(rest)
+    let (bars, is_text) = bars_and_text(bytes);
+    is_text && bars == if ends_in_bar(bytes) { 5 } else { 4 }
 }
 
+// The number of bars, and whether all bytes are text: one loop with no early end, which goes over many bytes at a time.
 #[inline(always)]
-fn is_all_text(bytes: &[u8]) -> bool
-    ensures { result ≡ is_text bytes.now }
+fn bars_and_text(bytes: &[u8]) -> (u8, bool)
+    requires { length bytes.now ≤ 255 }
+    ensures bars { result.0 ≡ count_by (λ b. b == 124) bytes.now }
+    ensures text { result.1 ≡ is_text bytes.now }
 {
-    let mut holds = true;
+    let mut bars = 0;
+    let mut is_text = true;
     for b in bytes {
-        holds &= b' ' <= *b && *b <= b'~';
+        bars += u8::from(*b == b'|');
+        is_text &= b' ' <= *b && *b <= b'~';
     }
-    holds
+    (bars, is_text)
 }

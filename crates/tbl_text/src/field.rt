@@ -147,3 +147,6 @@ pub(crate) fn pair_of(tens: u8, ones: u8) -> Option<u8>
         _ => None,
     }
 }
+
+#[cfg(test)]
+mod tests;

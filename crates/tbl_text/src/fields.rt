@@ -45,8 +45,7 @@ pub(crate) fn judged(line: &[u8]) -> Result<(Key, Tuple), LineFault>
 }
 
 // How many fields a line has: as many as bars, and one more where no bar ends it.
-#[inline(always)]
-pub(crate) fn field_count(line: &[u8]) -> u32
+fn field_count(line: &[u8]) -> u32
     requires { length line.now ≤ 4_294_967_295 }
     ensures { result ≡ length (fields_of line.now) }
 {
@@ -55,13 +54,12 @@ pub(crate) fn field_count(line: &[u8]) -> u32
 }
 
 #[inline(always)]
-fn ends_in_bar(line: &[u8]) -> bool
+pub(crate) fn ends_in_bar(line: &[u8]) -> bool
     ensures { IsTrue result ↔ ((1 ≤ length line.now) × (slice_index line.now (length line.now - 1) ≡ 124)) }
 {
     matches!(line, [.., b'|'])
 }
 
-#[inline(always)]
 fn bar_count(bytes: &[u8]) -> u32
     requires { length bytes.now ≤ 4_294_967_295 }
     ensures { result ≡ count_by (λ b. b == 124) bytes.now }

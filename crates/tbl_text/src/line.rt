@@ -44,3 +44,6 @@ pub fn line_of(bytes: &[u8]) -> Result<(Key, Tuple), LineFault>
         None => judged(bytes),
     }
 }
+
+#[cfg(test)]
+mod tests;

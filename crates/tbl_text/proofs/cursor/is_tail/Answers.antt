@@ -1,6 +1,14 @@
 use Rattle.std.proofs.Common.{◌∙◌, sym}
-use Rattle.tbl_text.proofs.Taking.{is_tail}
+use Rattle.std.proofs.lemmas.Bool.{OnTrue_from, eqb-true, false≢true}
+use Rattle.tbl_text.proofs.Taking.{tail_ended, tail_open}
 use Rattle.tbl_text.proofs.cursor.is_tail.Goals as goal
+use Rattle.tbl_text.proofs.cursor.is_tail.Goals.{then-ends_in_bar, else-ends_in_bar}
 
-pub returns-then-field_count-eq5 : goal.returns-then-field_count-eq5
-returns-then-field_count-eq5 c = is_tail _ c.is_all_text.result (sym c.field_count.ensures ∙ c.if-field_count-eq5.true) c.is_all_text.ensures
+pub returns-after-ends_in_bar : goal.returns-after-ends_in_bar
+returns-after-ends_in_bar c =
+    let counted = c.bars_and_text-bars.ensures in
+    let text = sym counted.text ∙ c.if-is_text.true in
+    OnTrue_from _ _ (λ same. elim c.if-ends_in_bar.branch [
+      | then-ends_in_bar w ↦ tail_ended _ _ (c.ends_in_bar.ensures.0 w.if-ends_in_bar.true) counted.bars text (eqb-true _ _ same ∙ w.result-is)
+      | else-ends_in_bar w ↦ tail_open _ _ (λ bar. false≢true (sym w.if-ends_in_bar.false ∙ c.ends_in_bar.ensures.1 bar)) counted.bars text (eqb-true _ _ same ∙ w.result-is)
+    ])
