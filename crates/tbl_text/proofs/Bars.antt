@@ -5,6 +5,7 @@ use Rattle.std.proofs.lemmas.Bool.{eq-eqb, ne_eqb, eqb-true}
 use Rattle.std.proofs.lemmas.List.{nil_from_length, take_all, drop-drop, length-drop, length-take, get_or-take}
 use Rattle.std.proofs.lemmas.List.Elements.{All-head, All-tail}
 use Rattle.std.proofs.lemmas.List.Sums.{sum_by-cons, split_at_first, passes_at_first, fails_before_first}
+use Rattle.tbl_text.specs.Fields.{IsCut}
 use Rattle.tbl_text.specs.Lines.{onto_first, pieces, fields_of}
 
 -- no byte is the separator
@@ -115,21 +116,24 @@ length-fields_of-le (b ∷ bytes) some = length-pieces-le 124 (b ∷ bytes)
 
 -- ---- one after another
 
--- readers took these fields, one after another
-abbrev pub Reads : List ℕ → List (List ℕ) → Type 0
-Reads rest [] = Unit {0}
-Reads rest (field ∷ fields) = (after : List ℕ) × (0 < length rest → pieces 124 rest ≡ field ∷ pieces 124 after) × Reads after fields
+-- these fields were cut off the bytes, one after another
+pub data Reads : List ℕ → List (List ℕ) → Type 0 where
+  nothing : {bytes : List ℕ} → Reads bytes []
+  cons : {bytes field rest : List ℕ} {fields : List (List ℕ)} → IsCut bytes field rest → Reads rest fields → Reads bytes (field ∷ fields)
+
+infixr 20 ◌⨾◌
+pub ◌⨾◌ : {bytes field rest : List ℕ} {fields : List (List ℕ)} → IsCut bytes field rest → Reads rest fields → Reads bytes (field ∷ fields)
+cut ⨾ reads = cons cut reads
 
 -- as many fields as there are pieces are the pieces
-pieces-read : (rest : List ℕ) (fields : List (List ℕ)) → length (pieces 124 rest) ≡ length fields → Reads rest fields → pieces 124 rest ≡ fields
-pieces-read rest [] len reads = nil_from_length (pieces 124 rest) len
-pieces-read [] (field ∷ fields) len reads = absurd (omega arith)
-pieces-read (b ∷ rest) (field ∷ fields) len reads =
-    let first : pieces 124 (b ∷ rest) ≡ field ∷ pieces 124 reads.0 = reads.1 (omega arith) in
-    let others : length (pieces 124 reads.0) ≡ length fields = omega (arith, ap length first) in
-    first ∙ ap (λ parts. field ∷ parts) (pieces-read reads.0 fields others reads.2)
+pieces-read : {bytes : List ℕ} {fields : List (List ℕ)} → Reads bytes fields → length (pieces 124 bytes) ≡ length fields → pieces 124 bytes ≡ fields
+pieces-read {bytes = bytes} nothing len = nil_from_length (pieces 124 bytes) len
+pieces-read {bytes = []} (cons cut reads) len = absurd (omega arith)
+pieces-read {bytes = b ∷ bytes} (cons {field = field} {rest = rest} cut reads) len =
+    let first : pieces 124 (b ∷ bytes) ≡ field ∷ pieces 124 rest = cut.first (omega arith) in
+    first ∙ ap (λ fields. field ∷ fields) (pieces-read reads (omega (arith, ap length first)))
 
 -- as many fields as the line has, and more than one, are its fields
-pub fields_of-read : (line : List ℕ) (fields : List (List ℕ)) → 1 < length fields → length (fields_of line) ≡ length fields → Reads line fields → fields_of line ≡ fields
-fields_of-read [] fields some len reads = absurd (omega arith)
-fields_of-read (b ∷ line) fields some len reads = pieces-read (b ∷ line) fields len reads
+pub fields_of-read : (line : List ℕ) (fields : List (List ℕ)) → Reads line fields → 1 < length fields → length (fields_of line) ≡ length fields → fields_of line ≡ fields
+fields_of-read [] fields reads some len = absurd (omega arith)
+fields_of-read (b ∷ line) fields reads some len = pieces-read reads len

@@ -1,13 +1,13 @@
 //! The fields of a line, judged one after another. This reader is the definition's own program: it finds the first
 //! fault of any line.
-ghost use Rattle.std.specs.Prelude.{◌≡◌, ◌<◌, ◌≤◌, ◌-◌, ◌↔◌, ◌∷◌, count_by, ◌==◌, length, slice_index, IfOk, IsTrue};
+ghost use Rattle.std.specs.Prelude.{◌≡◌, ◌≤◌, ◌-◌, ◌↔◌, count_by, ◌==◌, length, slice_index, IfOk, IsTrue};
 ghost use Rattle.std.specs.List.{position_or_len};
-ghost use Rattle.tbl_text.specs.Lines.{pieces, fields_of};
+ghost use Rattle.tbl_text.specs.Lines.{fields_of};
 ghost use Rattle.tbl_text.specs.Line.{fields_value, within, text, line_value};
-ghost use Rattle.tbl_text.specs.Fields.{listed};
+ghost use Rattle.tbl_text.specs.Fields.{IsCut, listed};
 
 use crate::field::{date_field, flag_of, integer_of, is_text, money_of, quantity_of, status_of};
-use crate::line::LineFault;
+use crate::line::LineFault as Fault;
 use cubit_base::{Key, Tuple};
 
 /// The sixteen fields of a line, in their order.
@@ -34,13 +34,13 @@ struct Fields<'a> {
 /// The key and the tuple of a line, or its first fault.
 #[cold]
 #[inline(never)]
-pub(crate) fn judged(line: &[u8]) -> Result<(Key, Tuple), LineFault>
+pub(crate) fn judged(line: &[u8]) -> Result<(Key, Tuple), Fault>
     requires { length line.now ≤ 4_294_967_295 }
     ensures { result ≡ line_value line.now }
 {
     match field_count(line) {
         16 => fields_value(split(line)),
-        count => Err(LineFault::FieldCount(count)),
+        count => Err(Fault::FieldCount(count)),
     }
 }
 
@@ -113,7 +113,7 @@ fn split(line: &[u8]) -> Fields<'_>
 
 // The first field of some bytes, and what follows its bar.
 fn next_field(bytes: &[u8]) -> (&[u8], &[u8])
-    ensures { 0 < length bytes.now → pieces 124 bytes.now ≡ result.0.now ∷ pieces 124 result.1.now }
+    ensures { IsCut bytes.now result.0.now result.1.now }
 {
     let (field, rest) = bytes.split_at(bar_at(bytes));
     match rest {
@@ -135,30 +135,20 @@ fn bar_at(bytes: &[u8]) -> usize
 }
 
 // What sixteen fields say, from left to right.
-fn fields_value(fields: Fields<'_>) -> Result<(Key, Tuple), LineFault>
+fn fields_value(fields: Fields<'_>) -> Result<(Key, Tuple), Fault>
     ensures { result ≡ fields_value (listed fields.entry) }
 {
-    let order = within(
-        1,
-        4_294_967_295,
-        integer_of(fields.orderkey),
-        LineFault::Order,
-    )?;
+    let order = within(1, 4_294_967_295, integer_of(fields.orderkey), Fault::Order)?;
     text(fields.partkey)?;
     text(fields.suppkey)?;
-    let line = within(1, 7, integer_of(fields.linenumber), LineFault::Line)?;
-    let qty = within(1, 50, quantity_of(fields.quantity), LineFault::Quantity)?;
-    let price = within(
-        0,
-        99_999_999,
-        money_of(fields.extendedprice),
-        LineFault::Price,
-    )?;
-    let disc = within(0, 10, money_of(fields.discount), LineFault::Discount)?;
-    let tax = within(0, 8, money_of(fields.tax), LineFault::Tax)?;
-    let flag = flag_of(fields.returnflag).ok_or(LineFault::Flag)?;
-    let status = status_of(fields.linestatus).ok_or(LineFault::Status)?;
-    let day = date_field(fields.shipdate).ok_or(LineFault::Date)?;
+    let line = within(1, 7, integer_of(fields.linenumber), Fault::Line)?;
+    let qty = within(1, 50, quantity_of(fields.quantity), Fault::Quantity)?;
+    let price = within(0, 99_999_999, money_of(fields.extendedprice), Fault::Price)?;
+    let disc = within(0, 10, money_of(fields.discount), Fault::Discount)?;
+    let tax = within(0, 8, money_of(fields.tax), Fault::Tax)?;
+    let flag = flag_of(fields.returnflag).ok_or(Fault::Flag)?;
+    let status = status_of(fields.linestatus).ok_or(Fault::Status)?;
+    let day = date_field(fields.shipdate).ok_or(Fault::Date)?;
     text(fields.commitdate)?;
     text(fields.receiptdate)?;
     text(fields.shipinstruct)?;
@@ -180,7 +170,7 @@ fn fields_value(fields: Fields<'_>) -> Result<(Key, Tuple), LineFault>
     Ok((key, tuple))
 }
 
-fn within(low: u64, high: u64, number: Option<u64>, fault: LineFault) -> Result<u64, LineFault>
+fn within(low: u64, high: u64, number: Option<u64>, fault: Fault) -> Result<u64, Fault>
     ensures value { result ≡ within low high number fault }
     ensures range { IfOk result (λ n. (low ≤ n) × (n ≤ high)) }
 {
@@ -190,12 +180,12 @@ fn within(low: u64, high: u64, number: Option<u64>, fault: LineFault) -> Result<
     }
 }
 
-fn text(field: &[u8]) -> Result<(), LineFault>
+fn text(field: &[u8]) -> Result<(), Fault>
     ensures { result ≡ text field.now }
 {
     if is_text(field) {
         Ok(())
     } else {
-        Err(LineFault::Text)
+        Err(Fault::Text)
     }
 }
