@@ -1,5 +1,5 @@
 //! The rows that were read, in the order of their lines.
-ghost use Rattle.std.specs.Prelude.{◌≡◌, ◌<◌, ◌≤◌, [], ◌∷◌, ◌++◌, length, Some, IfOk, OnOk, IsTrue};
+ghost use Rattle.std.specs.Prelude.{◌≡◌, ◌<◌, ◌≤◌, [], ◌∷◌, ◌++◌, length, Some, IfOk, OnOk, IsTrue, ◌↔◌};
 ghost use Rattle.cubit_base.specs.declared.table.TheConstants.{ROW_LIMIT};
 ghost use Rattle.tbl_text.specs.Reading.{is_above, HasRisingKeys, last_key};
 
@@ -14,7 +14,7 @@ pub struct Rows {
     last: Option<Key>,
     pub are_rising: bool,
     ghost ends: { last ≡ last_key table },
-    ghost rising: { IsTrue are_rising → HasRisingKeys table },
+    ghost rising: { IsTrue are_rising ↔ HasRisingKeys table },
 }
 
 // Whether the key is above the other, if there is one.
