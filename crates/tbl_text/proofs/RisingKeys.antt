@@ -1,8 +1,9 @@
 -- Keys that rise from row to row.
-use Rattle.std.proofs.Common.{◌≡◌, ℕ, ◌-◌, ◌<◌, true, false, List, [], ◌∷◌, ◌++◌, length, get_or, Some, IsTrue, sym, ◌∙◌, inl, inr, arith}
+use Rattle.std.proofs.Common.{◌≡◌, ℕ, ◌-◌, ◌<◌, Bool, ◌&&◌, true, false, List, [], ◌∷◌, ◌++◌, length, get_or, Some, IsTrue, ◌↔◌, refl, sym, ◌∙◌, inl, inr, arith}
 use Rattle.std.proofs.lemmas.Grind.{common_steps}
 use Rattle.std.proofs.lemmas.Option.{gets, slice_get-get_or}
-use Rattle.std.proofs.lemmas.Bool.{cases_eq, false≢true}
+use Rattle.std.proofs.lemmas.Bool.{cases_eq, false≢true, and_parts, and_from}
+use Rattle.std.proofs.lemmas.List.{get_or_append_left, get_or_push, length_push}
 use Rattle.std.proofs.lemmas.List.Quantifiers.{all_pairs_push}
 use Rattle.cubit_base.specs.Key.{KeyValue}
 use Rattle.cubit_base.specs.Table.{Row, HasDistinctKeys}
@@ -35,6 +36,32 @@ key_is_less-each rows key rising above k d within =
     ]
 
 -- a row whose key is above the last row's
-pub HasRisingKeys-push : (rows : List Row) (row : Row) → HasRisingKeys rows → is_above row.0 (last_key rows) ≡ true → HasRisingKeys (rows ++ row ∷ [])
+HasRisingKeys-push : (rows : List Row) (row : Row) → HasRisingKeys rows → is_above row.0 (last_key rows) ≡ true → HasRisingKeys (rows ++ row ∷ [])
 HasRisingKeys-push rows row rising above =
     all_pairs_push (λ a b. IsTrue (key_is_less a.0 b.0)) rows row rising (key_is_less-each rows row.0 rising above)
+
+-- keys that rise to the last
+HasRisingKeys-front : (rows : List Row) (row : Row) → HasRisingKeys (rows ++ row ∷ []) → HasRisingKeys rows
+HasRisingKeys-front rows row rising i j d order within =
+    let i_within : i < length rows = omega arith in
+    let less = rising i j d order (omega (arith, length_push rows row)) in
+    rw (get_or_append_left rows (row ∷ []) d i i_within, get_or_append_left rows (row ∷ []) d j within) at less
+
+is_above-last_key : (rows : List Row) (row : Row) → HasRisingKeys (rows ++ row ∷ []) → is_above row.0 (last_key rows) ≡ true
+is_above-last_key [] row rising = refl
+is_above-last_key (first ∷ rows) row rising =
+    let all : List Row = first ∷ rows in
+    let last : ℕ = length all - 1 in
+    let within : last < length all = omega arith in
+    let less = rising last (length all) first within (omega (arith, length_push all row)) in
+    rw (slice_get-get_or all last first within) (rw (get_or_append_left all (row ∷ []) first last within, get_or_push all row first (length all) refl) at less)
+
+-- the keys rise still where they did, and the new one is above the last
+pub HasRisingKeys-push_iff : (rows : List Row) (row : Row) (still above : Bool) → (IsTrue still ↔ HasRisingKeys rows) → above ≡ is_above row.0 (last_key rows) → (IsTrue (still && above) ↔ HasRisingKeys (rows ++ row ∷ []))
+HasRisingKeys-push_iff rows row still above both is = (
+  λ holds.
+      let parts = and_parts still above holds in
+      HasRisingKeys-push rows row (both.0 parts.0) (sym is ∙ parts.1),
+  λ rising.
+      and_from still above (both.1 (HasRisingKeys-front rows row rising)) (is ∙ is_above-last_key rows row rising),
+)

@@ -37,6 +37,9 @@ impl From<Memory> for BaseFault {
     }
 }
 
+// Few lines of `lineitem` are shorter, so that room for the rows is mostly taken once.
+const SHORT_LINE_LEN: usize = 100;
+
 // What was read of a file, up to its end or to the first line that is bad by itself.
 #[derive(Drop)]
 struct Reading {
@@ -63,7 +66,7 @@ pub fn base_of(alloc: Global, bytes: &[u8], row_limit: u32) -> Result<Table, Bas
     }
 }
 
-// Reads line after line. Room for the rows is taken once: a line of `lineitem` mostly has more than 100 bytes.
+// Reads line after line.
 fn read_lines(alloc: Global, bytes: &[u8], row_limit: u32) -> Result<Reading, Memory>
     requires bytes { length bytes.now ≤ 4_294_967_295 }
     requires limit { row_limit ≤ 16_777_216 }
@@ -71,7 +74,7 @@ fn read_lines(alloc: Global, bytes: &[u8], row_limit: u32) -> Result<Reading, Me
     ensures value { IfOk result (λ r. (r.rows.table, r.fault) ≡ read_from row_limit 0 (lines_of bytes.now)) }
     ensures within { IfOk result (λ r. length r.rows.table ≤ row_limit) }
 {
-    let expected_rows = (bytes.len() / 100).min(row_limit as usize) as u32;
+    let expected_rows = (bytes.len() / SHORT_LINE_LEN).min(row_limit as usize) as u32;
     let mut rows = Rows::with_capacity(alloc, expected_rows)?;
     let mut rest = bytes;
     while let Some(line) = first_line(rest) {

@@ -13,6 +13,7 @@ pub struct Line {
     pub next: usize,
 }
 
+// The place of the first LF, or the number of bytes.
 fn line_end(bytes: &[u8]) -> usize
     ensures { result ≡ line_end bytes.now }
 {

@@ -48,6 +48,7 @@ impl Rows {
     }
 }
 
+// The entries of all rows. No two are equal, so a sort that takes no memory serves.
 fn sorted_entries(alloc: Global, table: &Table) -> Result<Vec<Entry>, Memory>
     ensures moved { IfOk result (λ entries. IsPermutation (entries_of table.now) entries.items) }
     ensures sorted { IfOk result (λ entries. IsSorted entry_cmp entries.items) }

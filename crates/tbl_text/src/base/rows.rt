@@ -1,5 +1,5 @@
 //! The rows that were read, in the order of their lines.
-ghost use Rattle.std.specs.Prelude.{◌≡◌, ◌<◌, ◌≤◌, [], ◌∷◌, ◌++◌, length, Some, IfOk, OnOk, IsTrue};
+ghost use Rattle.std.specs.Prelude.{◌≡◌, ◌<◌, ◌≤◌, [], ◌∷◌, ◌++◌, length, Some, IfOk, OnOk, OnErr, IsTrue, ◌↔◌};
 ghost use Rattle.cubit_base.specs.declared.table.TheConstants.{ROW_LIMIT};
 ghost use Rattle.tbl_text.specs.Reading.{is_above, HasRisingKeys, last_key};
 
@@ -14,7 +14,7 @@ pub struct Rows {
     last: Option<Key>,
     pub are_rising: bool,
     ghost ends: { last ≡ last_key table },
-    ghost rising: { IsTrue are_rising → HasRisingKeys table },
+    ghost rising: { IsTrue are_rising ↔ HasRisingKeys table },
 }
 
 // Whether the key is above the other, if there is one.
@@ -51,7 +51,8 @@ impl Rows {
     /// Puts the row of a line at the end.
     pub fn push(&mut self, key: Key, tuple: Tuple) -> Result<(), Memory>
         requires { length self.old.table < ROW_LIMIT }
-        ensures { OnOk result (self.new.table ≡ self.old.table ++ (key, Some tuple) ∷ []) }
+        ensures ok { OnOk result (self.new.table ≡ self.old.table ++ (key, Some tuple) ∷ []) }
+        ensures err { OnErr result (self.new.table ≡ self.old.table) }
     {
         self.table.push(key, Some(tuple))?;
         self.are_rising &= is_above(key, self.last);

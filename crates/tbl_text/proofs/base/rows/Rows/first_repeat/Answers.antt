@@ -3,7 +3,7 @@ use Rattle.tbl_text.proofs.SortedKeys.{first_repeat-least_tie}
 use Rattle.tbl_text.proofs.base.rows.Rows.first_repeat.Goals as goal
 
 pub returns-then-self : goal.returns-then-self
-returns-then-self c = HasRisingKeys-distinct c.args.self.now.table (c.args.self.now.rising c.if-self.true)
+returns-then-self c = HasRisingKeys-distinct c.args.self.now.table (c.args.self.now.rising.0 c.if-self.true)
 
 pub returns : goal.returns
 returns c =
