@@ -3,10 +3,9 @@
 
 use cubit_cli::run;
 use cubit_io::{DiskFiles, StdSink};
-use std::env;
-use std::io;
 use std::process::ExitCode;
 use std::rt::Env;
+use std::{env, io};
 
 fn main(rt: HostRuntime) -> ExitCode {
     // Words that cannot be had as text are wrong words, as none at all are.

@@ -42,7 +42,7 @@ pub fn date_field(field: &[u8]) -> Option<u16>
     }
 }
 
-// An integer, then optionally `.0` or `.00`.
+/// A quantity: an integer, then optionally `.0` or `.00`.
 pub fn quantity_of(field: &[u8]) -> Option<u64>
     ensures { result ≡ quantity_value field.now }
 {
