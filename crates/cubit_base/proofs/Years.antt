@@ -1,5 +1,5 @@
 -- Where the years from 1992 to 1998 begin, and the numbers of their days.
-use Rattle.std.proofs.Common.{◌≡◌, ℕ, ◌+◌, ◌-◌, ◌≤◌, ◌⊎◌, ◌∙◌, Bool, true, false, cond, Some, pos, refl, sym, ap, arith, inl, inr}
+use Rattle.std.proofs.Common.{◌≡◌, ℕ, ◌+◌, ◌-◌, ◌≤◌, ◌⊎◌, ◌∙◌, Bool, true, false, cond, Some, pos, refl, ap, arith, inl, inr}
 use Rattle.std.proofs.lemmas.Bool.{le-leb}
 use Rattle.jiff_core.specs.Calendar.{day_count, day_of_year, days_in_month, days_in_year, is_leap_year}
 use Rattle.jiff_core.proofs.MarchLemmas.{day_count-early}

@@ -1,5 +1,5 @@
 -- What a query answers over a table.
-use Rattle.std.specs.Prelude.{ℕ, Bool, false, List, length, map, filter, sum_by, Option, Some, None}
+use Rattle.std.specs.Prelude.{ℕ, Bool, false, List, length, map, filter, sum_by, Some, None}
 use Rattle.std.specs.List.{enumerate_from}
 use Rattle.cubit_base.specs.declared.predicate.Predicate.{Predicate}
 use Rattle.cubit_base.specs.Tuple.{amount_of}

@@ -1,5 +1,5 @@
 -- What a query selects.
-use Rattle.std.specs.Prelude.{ℕ, ◌-◌, ◌+◌, Bool, true, ◌&&◌, nat_le, Option, Some, None, max, min}
+use Rattle.std.specs.Prelude.{ℕ, ◌-◌, ◌+◌, Bool, true, ◌&&◌, nat_le, Option, Some, None, min}
 use Rattle.cubit_base.specs.declared.predicate.Range.{Range}
 use Rattle.cubit_base.specs.declared.predicate.Predicate.{Predicate}
 use Rattle.cubit_base.specs.Tuple.{TupleValue, flag_number, status_number}

@@ -1,5 +1,5 @@
 -- What the 16 bytes of a stored row stand for.
-use Rattle.std.specs.Prelude.{ℕ, ◌≤◌, ◌<◌, ◌==◌, Bool, Option, Some, None, if◌then◌else◌}
+use Rattle.std.specs.Prelude.{◌<◌, ◌==◌, Some, None, if◌then◌else◌}
 use Rattle.cubit_base.specs.declared.table.StoredRow.TheInside.{Inside}
 use Rattle.cubit_base.specs.Tuple.{TupleValue, IsTuple}
 use Rattle.cubit_base.specs.Key.{KeyValue, IsKey}

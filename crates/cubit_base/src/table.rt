@@ -185,3 +185,51 @@ impl Table {
         totals
     }
 }
+
+#[cfg(test)]
+mod tests {
+    use super::*;
+    use crate::day_of;
+    use std::test::Fail;
+
+    #[test]
+    fn rows_come_back(rt: HostRuntime) -> Result<(), Fail> {
+        let mut table = Table::with_capacity(rt.alloc(), 2)?;
+        assert!(rt; table.is_empty());
+        let key = Key { order: 1, line: 7 };
+        let tuple = Tuple {
+            price: 99_999_999,
+            day: 2556,
+            qty: 50,
+            disc: 10,
+            tax: 8,
+            flag: Flag::R,
+            status: LineStatus::O,
+        };
+        table.push(key, Some(tuple))?;
+        table.push(key, None)?;
+        assert_eq!(rt; table.row(0), Some((key, Some(tuple))));
+        assert_eq!(rt; table.row(1), Some((key, None)));
+        assert_eq!(rt; table.row(2), None);
+        assert_eq!(rt; table.len(), 2);
+        Ok(())
+    }
+
+    #[test]
+    fn days(rt: HostRuntime) {
+        for (year, month, day, number) in [
+            (1992, 1, 1, Some(0)),
+            (1992, 2, 29, Some(59)),
+            (1996, 2, 29, Some(1520)),
+            (1996, 3, 13, Some(1533)),
+            (1998, 12, 31, Some(2556)),
+            (1995, 2, 29, None),
+            (1991, 12, 31, None),
+            (1999, 1, 1, None),
+            (1996, 0, 10, None),
+            (1996, 13, 1, None),
+        ] {
+            assert_eq!(rt; day_of(year, month, day), number);
+        }
+    }
+}

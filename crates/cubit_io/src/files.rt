@@ -1,5 +1,5 @@
 //! Named files that are read from their start, one at a time.
-ghost use Rattle.std.specs.Prelude.{◌≡◌, ◌⊎◌, ◌<◌, ◌≤◌, ℕ, List, [], ◌++◌, Option, Ok, length, take, drop, IsErr, IfOk, IfSome, OnOk, OnErr};
+ghost use Rattle.std.specs.Prelude.{◌≡◌, ◌⊎◌, ◌<◌, ◌≤◌, ℕ, List, [], Option, Ok, length, take, IsErr, IfOk, IfSome, OnOk, OnErr};
 ghost use Rattle.cubit_io.specs.Held.{Held, IsMissing, Chooses};
 ghost use Rattle.cubit_io.specs.Pieces.{Gives};
 ghost use Rattle.cubit_io.specs.Count.{Rose};

@@ -1,15 +1,19 @@
 //! Reading a file whole, and writing a text whole.
-ghost use Rattle.std.specs.Prelude.{◌≡◌, ◌⊎◌, ◌<◌, ◌≤◌, ℕ, List, Err, length, vec_len, IsErr, IsErrOf, IfOk, OnOk, OnErr};
+ghost use Rattle.std.specs.Prelude.{◌≡◌, ◌⊎◌, ◌<◌, ◌≤◌, ℕ, List, [], length, vec_len, IsOk, IsErr, IsErrOf, IfOk, OnOk, OnErr};
 ghost use Rattle.cubit_io.specs.Held.{IsMissing, Holds, HoldsWhereTold, HasWhereTold};
 ghost use Rattle.cubit_io.specs.Pieces.{GrewBy, GrewByPrefix};
 ghost use Rattle.cubit_io.specs.Count.{Rose};
 ghost use Rattle.cubit_io.specs.declared.whole.TheConstants.{FILE_LIMIT};
+ghost use Rattle.cubit_io.specs.declared.whole.ReadStop.TheVariants.{Fault, Memory};
 
-use crate::{Failed, Files, Memory, Sink};
-use std::alloc::Global;
+use crate::{Failed, Files, Sink};
+use std::alloc::{AllocError, Global};
 
 /// The most bytes that a file may have.
 pub const FILE_LIMIT: usize = 1_073_741_824;
+
+// Large enough that calls cost little, and small enough to stay in the processor's near memory.
+const PIECE: usize = 65_536;
 
 /// Why a file was not read.
 #[derive(Clone, Copy, Debug, PartialEq, Eq)]
@@ -22,12 +26,24 @@ pub enum ReadStop {
     Memory = 3,
 }
 
+impl From<Failed> for ReadStop {
+    ghost from_gives = { λ _ stop. stop ≡ Fault };
+
+    fn from(_: Failed) -> ReadStop {
+        ReadStop::Fault
+    }
+}
+
+impl From<AllocError> for ReadStop {
+    ghost from_gives = { λ _ stop. stop ≡ Memory };
+
+    fn from(_: AllocError) -> ReadStop {
+        ReadStop::Memory
+    }
+}
+
 /// All bytes of a file.
-pub fn read_all<F: Files>(
-    alloc: Global,
-    files: &mut F,
-    name: &str,
-) -> Result<Vec<u8>, ReadStop>
+pub fn read_all<F: Files>(alloc: Global, files: &mut F, name: &str) -> Result<Vec<u8>, ReadStop>
     ensures whole { IfOk result (λ bytes. HoldsWhereTold (F.held files.old) name.now bytes.items) }
     ensures within { IfOk result (λ bytes. vec_len bytes ≤ FILE_LIMIT) }
 
@@ -37,19 +53,34 @@ pub fn read_all<F: Files>(
         → IsErrOf result ReadStop.Fault ⊎ IsErrOf result ReadStop.Memory }
     ensures too_long { IsErrOf result ReadStop.TooLong
         → HasWhereTold (F.held files.old) name.now (λ bytes. FILE_LIMIT < length bytes) }
-    ensures longer { (bytes : List ℕ) → Holds (F.held files.old) name.now bytes → FILE_LIMIT < length bytes → IsErr result }
+    ensures longer { (bytes : List ℕ) → Holds (F.held files.old) name.now bytes → FILE_LIMIT < length bytes
+        → IsErr result }
 
     ensures held { F.held files.new ≡ F.held files.old }
     ensures counted { F.faults files.old ≤ F.faults files.new }
 {
-    Err(ReadStop::Memory)
+    files.begin(name)?;
+    let mut bytes = Vec::new(alloc);
+    let mut piece = [0u8; PIECE];
+    loop {
+        let count = files.read(&mut piece)?;
+        if count == 0 {
+            return Ok(bytes);
+        }
+        if count > FILE_LIMIT - bytes.len() {
+            return Err(ReadStop::TooLong);
+        }
+        bytes.extend_from_slice(&piece[..count])?;
+    }
 }
 
 /// Writes all the bytes, in as many pieces as the sink takes. It takes no memory.
+#[tactic(auto, using(crate::proofs::Writing::grew_by_next))]
 pub fn write_all<S: Sink>(sink: &mut S, bytes: &[u8]) -> Result<(), Failed>
     ensures whole { OnOk result (GrewBy (S.taken sink.old) (S.taken sink.new) bytes.now) }
     ensures part { OnErr result (GrewByPrefix (S.taken sink.old) (S.taken sink.new) bytes.now) }
     ensures cause { OnErr result (Rose (S.faults sink.old) (S.faults sink.new)) }
+    ensures nothing { bytes.now ≡ [] → IsOk result × (sink.new ≡ sink.old) }
     ensures counted { S.faults sink.old ≤ S.faults sink.new }
 {
     let mut done = 0;
@@ -58,3 +89,6 @@ pub fn write_all<S: Sink>(sink: &mut S, bytes: &[u8]) -> Result<(), Failed>
     }
     Ok(())
 }
+
+#[cfg(test)]
+mod tests;

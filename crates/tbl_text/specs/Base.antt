@@ -1,5 +1,5 @@
 -- What a whole file of `lineitem` lines says.
-use Rattle.std.specs.Prelude.{ℕ, ◌+◌, ◌==◌, Bool, false, ◌&&◌, List, [], ◌∷◌, map, take, filter_map, position, Option, Some, None, option_map, Result, Ok, Err, if◌then◌else◌}
+use Rattle.std.specs.Prelude.{ℕ, ◌+◌, ◌==◌, Bool, false, List, [], ◌∷◌, take, filter_map, position, Option, Some, None, option_map, Result, Ok, Err, if◌then◌else◌}
 use Rattle.std.specs.List.{enumerate_from}
 use Rattle.cubit_base.specs.Key.{KeyValue, same_key}
 use Rattle.cubit_base.specs.Tuple.{TupleValue}

@@ -4,3 +4,5 @@ pub mod Field
 pub mod Fields
 pub mod Line
 pub mod Lines
+pub mod Reading
+pub mod Repeats

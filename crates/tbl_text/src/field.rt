@@ -42,8 +42,8 @@ pub fn date_field(field: &[u8]) -> Option<u16>
     }
 }
 
-// An integer, then optionally `.0` or `.00`.
-pub(crate) fn quantity_of(field: &[u8]) -> Option<u64>
+/// A quantity: an integer, then optionally `.0` or `.00`.
+pub fn quantity_of(field: &[u8]) -> Option<u64>
     ensures { result ≡ quantity_value field.now }
 {
     match leading_integer(field)? {

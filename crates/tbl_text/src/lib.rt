@@ -10,7 +10,7 @@ mod line;
 mod lines;
 
 pub use base::{BaseFault, base_of};
-pub use field::{date_field, integer_of, money_of};
+pub use field::{date_field, integer_of, money_of, quantity_of};
 pub use line::{LineFault, line_of};
 pub use lines::{Line, first_line};
 pub use std::alloc::AllocError as Memory;

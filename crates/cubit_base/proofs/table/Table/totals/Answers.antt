@@ -1,4 +1,4 @@
-use Rattle.std.proofs.Common.{arith, rules}
+use Rattle.std.proofs.Common.{arith}
 use Rattle.std.proofs.lemmas.Grind.{common_steps}
 use Rattle.cubit_base.proofs.Matching.{length-matching, sum_by-matching}
 use Rattle.cubit_base.proofs.table.Table.totals.Goals as goal

@@ -1,0 +1,4 @@
+mod Counts
+mod Holding
+mod Stopping
+mod Telling

@@ -1,0 +1,29 @@
+//! How a call of the program ends.
+ghost use Rattle.std.specs.Prelude.{◌≡◌};
+ghost use Rattle.cubit_cli.specs.Status.{exit_code};
+
+/// How a call of the program ends; the number is its exit status.
+#[derive(Clone, Copy, Debug, PartialEq, Eq)]
+pub enum Status {
+    /// The whole answer was written.
+    Done = 0,
+    /// The words are no command.
+    Usage = 2,
+    /// A file cannot be read.
+    FileFault = 3,
+    /// The output cannot be written.
+    SinkFault = 4,
+    /// A file has a fault.
+    Refused = 5,
+    /// Memory ran out.
+    Memory = 8,
+}
+
+impl Status {
+    /// The exit status of the process.
+    pub fn code(self) -> u8
+        ensures { result ≡ exit_code self }
+    {
+        self as u8
+    }
+}

@@ -1,0 +1,9 @@
+-- A sink in memory, of which calls that are listed fail.
+use Rattle.std.specs.Prelude.{ℕ, List}
+
+-- all that was taken; the numbers of the calls that are to fail, from 1; how many calls there were; how many failed
+pub record MemorySinkValue : Type 0 where
+  pub taken : List ℕ
+  pub fails : List ℕ
+  pub calls : ℕ
+  pub faults : ℕ

@@ -1,0 +1,95 @@
+-- The first fault of a file is the first repeated key of the rows that were read, or else what stopped the reading.
+use Rattle.std.proofs.Common.{◌≡◌, ℕ, ◌+◌, Bool, true, false, cond, not, ◌==◌, List, [], ◌∷◌, ◌++◌, length, take, map, Option, Some, None, option_map, Result, Ok, Err, refl, sym, ap, ◌∙◌, append_assoc}
+use Rattle.std.specs.Prelude.{filter_map, position}
+use Rattle.std.specs.List.{enumerate_from, prefix_len, cons_option}
+use Rattle.std.specs.Option.{option_to_list}
+use Rattle.std.proofs.lemmas.List.{take_at, map_push, length_push, length-map}
+use Rattle.cubit_base.specs.Key.{KeyValue, same_key}
+use Rattle.cubit_base.specs.Tuple.{TupleValue}
+use Rattle.cubit_base.specs.Table.{Row}
+use Rattle.tbl_text.specs.declared.line.LineFault.{LineFault}
+use Rattle.tbl_text.specs.declared.base.BaseFault.{BaseFault}
+use Rattle.tbl_text.specs.declared.base.BaseFault.TheVariants as fault
+use Rattle.tbl_text.specs.Line.{line_value}
+use Rattle.tbl_text.specs.Lines.{lines_of}
+use Rattle.tbl_text.specs.Base.{rows_of, row_of_value, value_has_key, own_fault, fault_at, first_fault_or, base_value}
+use Rattle.tbl_text.specs.Reading.{Read, read_from, onto_read}
+
+-- the fault of a row that has the key of an earlier row
+abbrev pub repeat_at : List Row → ℕ → Row → Option BaseFault
+repeat_at rows place row =
+    option_map (λ first. fault.Twice (place + 1) (first + 1)) (position (λ earlier. same_key earlier.0 row.0) (take place rows))
+
+-- all of these, where the first of the later rows has a place
+abbrev pub repeats_from : List Row → ℕ → List Row → List BaseFault
+repeats_from rows place later = filter_map (λ p. repeat_at rows p.0 p.1) (enumerate_from place later)
+
+-- all faults of the later lines, where the first of them has a place
+abbrev faults_from : ℕ → List (List ℕ) → ℕ → List (List ℕ) → List BaseFault
+faults_from limit lines place later = filter_map (λ p. fault_at limit lines p.0 p.1) (enumerate_from place later)
+
+-- what comes of what was read
+abbrev pub outcome : Read → Result (List Row) BaseFault
+outcome read = first_fault_or (repeats_from read.0 0 read.0 ++ option_to_list read.1) read.0
+
+-- so many lines are these rows: each key stands at the same places of both
+record AreRows (place : ℕ) (lines : List (List ℕ)) (rows : List Row) : Type 0 where
+  lines_len : length lines ≡ place
+  rows_len : length rows ≡ place
+  keys : (key : KeyValue) → map (λ line. value_has_key key (line_value line)) lines ≡ map (λ row. same_key row.0 key) rows
+
+-- one line more
+AreRows-push : (place : ℕ) (lines : List (List ℕ)) (rows : List Row) (line : List ℕ) (key : KeyValue) (tuple : TupleValue) → AreRows place lines rows → line_value line ≡ Ok (key, tuple) → AreRows (place + 1) (lines ++ line ∷ []) (rows ++ (key, Some tuple) ∷ [])
+AreRows-push place lines rows line key tuple are is = record {
+  lines_len = length_push lines line ∙ ap (λ n. n + 1) are.lines_len;
+  rows_len = length_push rows (key, Some tuple) ∙ ap (λ n. n + 1) are.rows_len;
+  keys = λ k. rw (map_push, map_push, are.keys k, is) refl;
+}
+
+-- a place depends on the tests' answers alone
+prefix_len-map : {A B : Type 0} (p : B → Bool) (f : A → B) (xs : List A) → prefix_len (λ x. p (f x)) xs ≡ prefix_len p (map f xs)
+prefix_len-map p f [] = refl
+prefix_len-map p f (x ∷ xs) = ap (λ n. cond (p (f x)) (1 + n) 0) (prefix_len-map p f xs)
+
+position-map : {A : Type 0} (p : A → Bool) (xs : List A) → position p xs ≡ position (λ b. b) (map p xs)
+position-map p xs = rw (← prefix_len-map not p xs, length-map) refl
+
+position-keys : (place : ℕ) (lines : List (List ℕ)) (rows : List Row) → AreRows place lines rows → (key : KeyValue) → position (λ line. value_has_key key (line_value line)) lines ≡ position (λ row. same_key row.0 key) rows
+position-keys place lines rows are key =
+    position-map (λ line. value_has_key key (line_value line)) lines
+    ∙ ap (position (λ b. b)) (are.keys key)
+    ∙ sym (position-map (λ row. same_key row.0 key) rows)
+
+-- the lines from a place on have their first fault where what is read of them has it, behind the rows of the earlier lines
+abbrev Agrees : ℕ → List (List ℕ) → ℕ → List (List ℕ) → List Row → Read → Type 0
+Agrees limit lines place later front read =
+    first_fault_or (faults_from limit lines place later) (front ++ rows_of later)
+    ≡ first_fault_or (repeats_from (front ++ read.0) place read.0 ++ option_to_list read.1) (front ++ read.0)
+
+-- a line with a key, of which the place among the earlier rows is known
+first_fault-known : (place : ℕ) (faults repeats : List BaseFault) (rows all : List Row) (stop : List BaseFault) (first : Option ℕ) → first_fault_or faults rows ≡ first_fault_or (repeats ++ stop) all → first_fault_or (cons_option (option_map (λ n. fault.Twice (place + 1) (n + 1)) first) faults) rows ≡ first_fault_or (cons_option (option_map (λ n. fault.Twice (place + 1) (n + 1)) first) repeats ++ stop) all
+first_fault-known place faults repeats rows all stop None known = known
+first_fault-known place faults repeats rows all stop (Some n) known = refl
+
+-- one line, of which it is known whether it is one too many, and what it says
+first_fault-line : (limit place : ℕ) (earlier later : List (List ℕ)) (line : List ℕ) (front : List Row) (is_over : Bool) (value : Result (KeyValue × TupleValue) LineFault) → AreRows place earlier front → line_value line ≡ value → ((row : Row) → AreRows (place + 1) (earlier ++ line ∷ []) (front ++ row ∷ []) → Agrees limit (earlier ++ line ∷ later) (place + 1) later (front ++ row ∷ []) (read_from limit (place + 1) later)) → first_fault_or (cons_option (cond is_over (Some (fault.TooMany (place + 1))) (own_fault (place + 1) earlier value)) (faults_from limit (earlier ++ line ∷ later) (place + 1) later)) (front ++ cons_option (row_of_value value) (rows_of later)) ≡ first_fault_or (repeats_from (front ++ (cond is_over ([], Some (fault.TooMany (place + 1))) (onto_read place value (read_from limit (place + 1) later))).0) place (cond is_over ([], Some (fault.TooMany (place + 1))) (onto_read place value (read_from limit (place + 1) later))).0 ++ option_to_list (cond is_over ([], Some (fault.TooMany (place + 1))) (onto_read place value (read_from limit (place + 1) later))).1) (front ++ (cond is_over ([], Some (fault.TooMany (place + 1))) (onto_read place value (read_from limit (place + 1) later))).0)
+first_fault-line limit place earlier later line front true value are is known = refl
+first_fault-line limit place earlier later line front false (Err f) are is known = refl
+first_fault-line limit place earlier later line front false (Ok (key, tuple)) are is known =
+    let read : Read = read_from limit (place + 1) later in
+    let rows : List Row = front ++ (key, Some tuple) ∷ read.0 in
+    let behind = simp append_assoc at (known (key, Some tuple) (AreRows-push place earlier front line key tuple are is)) in
+    rw (position-keys place earlier front are key, take_at front ((key, Some tuple) ∷ read.0) place are.rows_len)
+    (first_fault-known place (faults_from limit (earlier ++ line ∷ later) (place + 1) later) (repeats_from rows (place + 1) read.0) (front ++ (key, Some tuple) ∷ rows_of later) rows (option_to_list read.1) (position (λ row. same_key row.0 key) front) behind)
+
+-- the first fault of the lines from a place on
+first_fault-read : (limit place : ℕ) (earlier later : List (List ℕ)) (front : List Row) → AreRows place earlier front → Agrees limit (earlier ++ later) place later front (read_from limit place later)
+first_fault-read limit place earlier [] front are = refl
+first_fault-read limit place earlier (line ∷ later) front are =
+    rw (take_at earlier (line ∷ later) place are.lines_len)
+    (first_fault-line limit place earlier later line front (place == limit) (line_value line) are refl
+    (λ row longer. rw (append_assoc earlier (line ∷ []) later) at (first_fault-read limit (place + 1) (earlier ++ line ∷ []) later (front ++ row ∷ []) longer)))
+
+-- a file's value is what comes of what is read of it
+pub base_value-outcome : (limit : ℕ) (bytes : List ℕ) → base_value limit bytes ≡ outcome (read_from limit 0 (lines_of bytes))
+base_value-outcome limit bytes = first_fault-read limit 0 [] (lines_of bytes) [] (record { lines_len = refl; rows_len = refl; keys = λ key. refl })

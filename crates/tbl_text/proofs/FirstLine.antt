@@ -1,0 +1,47 @@
+-- The first line is the first piece, and what follows its LF has the other pieces.
+use Rattle.std.proofs.Common.{◌≡◌, ◌≢◌, ℕ, ◌+◌, ◌-◌, ◌≤◌, suc, Bool, true, false, cond, not, ◌==◌, List, [], ◌∷◌, length, take, drop, min, slice_index, Option, Some, None, unwrap_or, refl, sym, ap, arith}
+use Rattle.std.proofs.lemmas.Bool.{false_from_ne_true}
+use Rattle.std.proofs.lemmas.List.{drop_min, take_min, length-take, length-take-le, take-take}
+use Rattle.std.proofs.lemmas.List.Sums.{position_or_len_is}
+use Rattle.memchr.specs.Find.{IsFirstByte, is_byte}
+use Rattle.tbl_text.specs.Lines.{pieces, onto_first, lines_of, line_end, without_cr}
+
+-- the first LF, or else the number of bytes
+pub line_end-first_byte : (bytes : List ℕ) (first : Option ℕ) → IsFirstByte (is_byte 10) bytes first → unwrap_or first (length bytes) ≡ line_end bytes
+line_end-first_byte bytes None nowhere =
+    sym (position_or_len_is (is_byte 10) bytes (length bytes) 0 (omega arith) (λ k below. false_from_ne_true _ (nowhere k (omega arith) below)) (λ past. absurd (omega arith)))
+line_end-first_byte bytes (Some k) first =
+    sym (position_or_len_is (is_byte 10) bytes k 0 (omega arith) (λ j below. false_from_ne_true _ (first.0.before j (omega arith) below)) (λ within. first.1))
+
+-- one byte more in front: it is a separator and ends an empty piece, or goes on the front of the first piece
+pieces-alone : (b : ℕ) (is_separator : Bool) → cond is_separator ([] ∷ []) ((b ∷ []) ∷ []) ≡ take (cond (not is_separator) 1 0) (b ∷ []) ∷ pieces 10 (drop (cond (not is_separator) 1 0 + 1) (b ∷ []))
+pieces-alone b true = refl
+pieces-alone b false = refl
+
+pieces-onto : (b end : ℕ) (bytes : List ℕ) (is_separator : Bool) → pieces 10 bytes ≡ take end bytes ∷ pieces 10 (drop (end + 1) bytes) → cond is_separator ([] ∷ pieces 10 bytes) (onto_first b (pieces 10 bytes)) ≡ take (cond (not is_separator) (1 + end) 0) (b ∷ bytes) ∷ pieces 10 (drop (cond (not is_separator) (1 + end) 0 + 1) (b ∷ bytes))
+pieces-onto b end bytes true known = refl
+pieces-onto b end bytes false known =
+    let one : 1 + end ≡ suc end = omega arith in
+    let two : 1 + end + 1 ≡ suc (end + 1) = omega arith in
+    rw (known, two, one) refl
+
+-- the first piece ends at the first separator
+pieces-first : (bytes : List ℕ) → bytes ≢ [] → pieces 10 bytes ≡ take (line_end bytes) bytes ∷ pieces 10 (drop (line_end bytes + 1) bytes)
+pieces-first [] some = absurd (some refl)
+pieces-first (b ∷ []) some = pieces-alone b (b == 10)
+pieces-first (b ∷ c ∷ bytes) some = pieces-onto b (line_end (c ∷ bytes)) (c ∷ bytes) (b == 10) (pieces-first (c ∷ bytes) (λ none. cc))
+
+-- a line is a front of the bytes
+take-cond : (end : ℕ) (bytes : List ℕ) (has_cr : Bool) → cond has_cr (take (length (take end bytes) - 1) (take end bytes)) (take end bytes) ≡ take (length (cond has_cr (take (length (take end bytes) - 1) (take end bytes)) (take end bytes))) bytes
+take-cond end bytes true =
+    let within : length (take end bytes) - 1 ≤ end = omega (arith, length-take end bytes) in
+    rw (length-take-le (length (take end bytes) - 1) (take end bytes) (omega arith)) (take-take (length (take end bytes) - 1) end bytes within)
+take-cond end bytes false = rw length-take (sym (take_min end bytes))
+
+take-without_cr : (end : ℕ) (bytes : List ℕ) → without_cr (take end bytes) ≡ take (length (without_cr (take end bytes))) bytes
+take-without_cr end bytes = take-cond end bytes (slice_index (take end bytes) (length (take end bytes) - 1) == 13)
+
+-- the first line, and the lines behind it
+pub lines_of-first : (bytes : List ℕ) → bytes ≢ [] → lines_of bytes ≡ take (length (without_cr (take (line_end bytes) bytes))) bytes ∷ lines_of (drop (min (line_end bytes + 1) (length bytes)) bytes)
+lines_of-first bytes some =
+    rw (pieces-first bytes some, drop_min (line_end bytes + 1) bytes) (ap (λ line. line ∷ lines_of (drop (line_end bytes + 1) bytes)) (take-without_cr (line_end bytes) bytes))

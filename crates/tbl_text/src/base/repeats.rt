@@ -1,0 +1,96 @@
+//! The first key that stands twice.
+ghost use Rattle.std.specs.Prelude.{◌≡◌, ◌<◌, ◌≤◌, length, IfOk, MatchOption, IsPermutation};
+ghost use Rattle.std.specs.List.Sorted.{IsSorted};
+ghost use Rattle.cubit_base.specs.Table.{HasDistinctKeys};
+ghost use Rattle.tbl_text.specs.Reading.{IsFirstRepeat};
+ghost use Rattle.tbl_text.specs.Repeats.{entries_of, has_same_key, lesser_tie, HasNoTie, IsLeastTie, entry_cmp};
+
+use super::rows::Rows;
+use crate::Memory;
+use cubit_base::Table;
+use std::alloc::Global;
+
+/// The numbers of two rows with one key, from 0.
+#[derive(Clone, Copy, Debug, PartialEq, Eq)]
+pub struct Repeat {
+    pub earlier: u32,
+    pub later: u32,
+}
+
+// A row's key and number, in 12 bytes. They are ordered by key, and those of one key by number.
+#[derive(Clone, Copy, Debug, PartialEq, Eq, PartialOrd, Ord)]
+struct Entry {
+    order: u32,
+    line: u8,
+    row: u32,
+}
+
+impl Entry {
+    fn has_key_of(&self, other: &Entry) -> bool
+        ensures { result ≡ has_same_key self.now other.now }
+    {
+        self.order == other.order && self.line == other.line
+    }
+}
+
+impl Rows {
+    /// The first row whose key an earlier row has, with that row. Only where keys fell or stayed is memory taken.
+    pub fn first_repeat(&self, alloc: Global) -> Result<Option<Repeat>, Memory>
+        ensures { IfOk result (λ found. MatchOption found
+            (HasDistinctKeys self.now.table)
+            (λ repeat. IsFirstRepeat self.now.table repeat.earlier repeat.later)) }
+    {
+        if self.are_rising {
+            return Ok(None);
+        }
+        let entries = sorted_entries(alloc, &self.table)?;
+        Ok(least_tie(&entries))
+    }
+}
+
+// The entries of all rows. No two are equal, so a sort that takes no memory serves.
+fn sorted_entries(alloc: Global, table: &Table) -> Result<Vec<Entry>, Memory>
+    ensures moved { IfOk result (λ entries. IsPermutation (entries_of table.now) entries.items) }
+    ensures sorted { IfOk result (λ entries. IsSorted entry_cmp entries.items) }
+{
+    let mut entries = Vec::with_capacity(alloc, table.len() as usize)?;
+    for row in 0..table.len() {
+        let (key, _) = table.row(row).unwrap();
+        entries.push(Entry {
+            order: key.order,
+            line: key.line,
+            row,
+        })?;
+    }
+    entries.sort_unstable();
+    Ok(entries)
+}
+
+// Two neighbours with one key, of which the later row is below that of the tie so far, or else that tie.
+fn lesser_tie(least: Option<Repeat>, earlier: &Entry, later: &Entry) -> Option<Repeat>
+    ensures { result ≡ lesser_tie least earlier.now later.now }
+{
+    if !earlier.has_key_of(later) {
+        return least;
+    }
+    match least {
+        Some(tie) if tie.later <= later.row => least,
+        _ => Some(Repeat {
+            earlier: earlier.row,
+            later: later.row,
+        }),
+    }
+}
+
+// The neighbours with one key whose later row is least.
+fn least_tie(entries: &[Entry]) -> Option<Repeat>
+    ensures { MatchOption result
+        (HasNoTie entries.now (length entries.now))
+        (λ tie. IsLeastTie entries.now (length entries.now) tie.earlier tie.later) }
+{
+    let mut least = None;
+    for i in 1..entries.len() {
+        least = lesser_tie(least, &entries[i - 1], &entries[i]);
+    }
+    least
+}

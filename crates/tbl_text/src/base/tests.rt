@@ -1,0 +1,74 @@
+use super::*;
+use cubit_base::{Flag, Key, LineStatus, Tuple};
+use std::alloc::AllocError;
+use std::test::Fail;
+
+const FIRST: &[u8] =
+    b"1|155190|7706|1|17|21168.23|0.04|0.02|N|O|1996-03-13|1996-02-12|1996-03-22|DELIVER IN PERSON|TRUCK|egular courts above the|";
+
+const SECOND: &[u8] =
+    b"1|67310|7311|2|36|45983.16|0.09|0.06|N|O|1996-04-12|1996-02-28|1996-04-20|TAKE BACK RETURN|MAIL|ly final dependencies: slyly bold |";
+
+const THIRD: &[u8] =
+    b"1|63700|3701|3|8|13309.60|0.10|0.02|N|O|1996-01-29|1996-03-05|1996-01-31|TAKE BACK RETURN|REG AIR|riously. regular, express dep|";
+
+// Each of the lines with this end.
+fn file_of(alloc: Global, lines: &[&[u8]], end: &[u8]) -> Result<Vec<u8>, AllocError> {
+    let mut file = Vec::new(alloc);
+    for line in lines {
+        file.extend_from_slice(line)?;
+        file.extend_from_slice(end)?;
+    }
+    Ok(file)
+}
+
+#[test]
+fn counts_rows_or_finds_first_fault(rt: HostRuntime) -> Result<(), Fail> {
+    let short = BaseFault::Line(2, LineFault::FieldCount(1));
+    let cases: [(&[&[u8]], u32, Result<u32, BaseFault>); 11] = [
+        (&[], 3, Ok(0)),
+        (&[FIRST, SECOND, THIRD], 3, Ok(3)),
+        (&[FIRST, SECOND, THIRD], 2, Err(BaseFault::TooMany(3))),
+        (&[FIRST, SECOND, b""], 2, Err(BaseFault::TooMany(3))),
+        (
+            &[FIRST, SECOND, THIRD, FIRST],
+            9,
+            Err(BaseFault::Twice(4, 1)),
+        ),
+        (&[THIRD, FIRST, SECOND], 9, Ok(3)),
+        (
+            &[THIRD, SECOND, FIRST, SECOND, THIRD],
+            9,
+            Err(BaseFault::Twice(4, 2)),
+        ),
+        (&[b""], 9, Err(BaseFault::Line(1, LineFault::FieldCount(1)))),
+        (&[FIRST, b"", SECOND], 9, Err(short)),
+        (&[FIRST, b"", FIRST], 9, Err(short)),
+        (&[FIRST, FIRST, b""], 9, Err(BaseFault::Twice(2, 1))),
+    ];
+    for (lines, row_limit, want) in cases {
+        for end in [b"\n".as_slice(), b"\r\n"] {
+            let file = file_of(rt.alloc(), lines, end)?;
+            assert!(rt; file.len() <= 9000);
+            let found = base_of(rt.alloc(), &file, row_limit).map(|table| table.len());
+            assert_eq!(rt; found, want, "with limit {row_limit}");
+        }
+    }
+    Ok(())
+}
+
+#[test]
+fn keeps_values_of_last_line_without_end(rt: HostRuntime) {
+    let row = base_of(rt.alloc(), SECOND, 1).map(|table| table.row(0));
+    let key = Key { order: 1, line: 2 };
+    let tuple = Tuple {
+        price: 4_598_316,
+        day: 1563,
+        qty: 36,
+        disc: 9,
+        tax: 6,
+        flag: Flag::N,
+        status: LineStatus::O,
+    };
+    assert_eq!(rt; row, Ok(Some((key, Some(tuple)))));
+}
