@@ -5,8 +5,6 @@ use Rattle.std.specs.Prelude.{ok_or}
 use Rattle.std.proofs.lemmas.Bool.{and_parts, le-leb}
 use Rattle.cubit_base.specs.Key.{KeyValue, IsKey}
 use Rattle.cubit_base.specs.Tuple.{TupleValue, IsTuple}
-use Rattle.cubit_base.specs.declared.tuple.Flag.{Flag}
-use Rattle.cubit_base.specs.declared.tuple.LineStatus.{LineStatus}
 use Rattle.tbl_text.specs.declared.line.LineFault.{LineFault}
 use Rattle.tbl_text.specs.declared.line.LineFault.TheVariants as fault
 use Rattle.tbl_text.specs.Cursor.{Takes, IsTail}

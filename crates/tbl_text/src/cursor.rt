@@ -1,9 +1,9 @@
 //! The common spelling of a line, read in one pass. What this reader takes is the line's value; it gives up at the first
 //! thing that is odd, also at spellings that are accepted and rare.
-ghost use Rattle.std.specs.Prelude.{◌≡◌, ℕ, ◌⊎◌, ◌<◌, ◌≤◌, ◌^◌, ◌∷◌, ◌++◌, ◌==◌, count_by, true, take, length, IfSome};
+ghost use Rattle.std.specs.Prelude.{◌≡◌, ℕ, ◌⊎◌, ◌<◌, ◌≤◌, ◌∷◌, ◌++◌, ◌==◌, count_by, true, take, length, IfSome};
 ghost use Rattle.std.specs.Bool.{OnTrue};
 ghost use Rattle.tbl_text.specs.Cursor.{Takes, Finds, IsTail};
-ghost use Rattle.tbl_text.specs.Field.{IsPair, integer_value, money_value, quantity_value, date_value, flag_value, status_value, is_text, is_text_byte};
+ghost use Rattle.tbl_text.specs.Field.{IsPair, integer_value, money_value, quantity_value, date_value, flag_value, status_value, is_text};
 ghost use Rattle.tbl_text.specs.Line.{line_value};
 
 use crate::field::{date_field, digit_count, flag_of, leading_integer, pair_of, status_of};
