@@ -18,6 +18,7 @@ pieces-separator separator [] rest free = rw (eq-eqb separator separator refl) r
 pieces-separator separator (b ∷ front) rest free =
     rw (All-head (λ x. eqb x separator ≡ false) b front free, pieces-separator separator front rest (All-tail (λ x. eqb x separator ≡ false) b front free)) refl
 
+-- before the first bar there is none
 before_first-free : (bytes : List ℕ) → IsFree 124 (before_first (λ b. eqb b 124) bytes)
 before_first-free bytes k d below =
     let is_bar : ℕ → Bool = λ b. eqb b 124 in
@@ -54,23 +55,28 @@ pieces-no_bar bytes front back at place is_front is_back none some =
 
 -- ---- how many
 
+-- a byte onto the first piece makes no new piece
 length-onto_first : (b : ℕ) (parts : List (List ℕ)) → 0 < length parts → length (onto_first b parts) ≡ length parts
 length-onto_first b [] some = absurd (omega arith)
 length-onto_first b (part ∷ parts) some = refl
 
+-- there is a piece then
 onto_first-some : (b : ℕ) (parts : List (List ℕ)) → 0 < length (onto_first b parts)
 onto_first-some b [] = omega arith
 onto_first-some b (part ∷ parts) = omega arith
 
+-- there is a piece of some bytes
 some-cond : (t : Bool) (b : ℕ) (parts : List (List ℕ)) → 0 < length (cond t ([] ∷ parts) (onto_first b parts))
 some-cond true b parts = omega arith
 some-cond false b parts = onto_first-some b parts
 
+-- one more byte: one more piece at a separator
 length-cond : (t : Bool) (b : ℕ) (parts : List (List ℕ)) (bars others last : ℕ) → 0 < length parts → length parts ≡ others + last → bars ≡ cond t 1 0 + others
     → length (cond t ([] ∷ parts) (onto_first b parts)) ≡ bars + last
 length-cond true b parts bars others last some is more = omega arith
 length-cond false b parts bars others last some is more = omega (arith, length-onto_first b parts some)
 
+-- the pieces of one byte
 length-one : (t : Bool) (b : ℕ) → length (cond t ([] ∷ []) ((b ∷ []) ∷ [])) ≡ 0 + cond t 1 0 + cond t 0 1
 length-one true b = refl
 length-one false b = refl
@@ -83,6 +89,7 @@ length-pieces separator b (c ∷ bytes) =
     length-cond (eqb b separator) b (pieces separator (c ∷ bytes)) _ _ _
     (some-cond (eqb c separator) c (pieces separator bytes)) (length-pieces separator c bytes) (sum_by-cons (λ x. cond (eqb x separator) 1 0) b (c ∷ bytes))
 
+-- one more byte makes at most one piece more
 length-cond-le : (t : Bool) (b : ℕ) (parts : List (List ℕ)) (n : ℕ) → length parts ≤ n → length (cond t ([] ∷ parts) (onto_first b parts)) ≤ suc n
 length-cond-le true b parts n le = omega arith
 length-cond-le false b [] n le = omega arith
@@ -121,6 +128,7 @@ pub data Reads : List ℕ → List (List ℕ) → Type 0 where
   nothing : {bytes : List ℕ} → Reads bytes []
   cons : {bytes field rest : List ℕ} {fields : List (List ℕ)} → IsCut bytes field rest → Reads rest fields → Reads bytes (field ∷ fields)
 
+-- one field more
 infixr 20 ◌⨾◌
 pub ◌⨾◌ : {bytes field rest : List ℕ} {fields : List (List ℕ)} → IsCut bytes field rest → Reads rest fields → Reads bytes (field ∷ fields)
 cut ⨾ reads = cons cut reads

@@ -1,5 +1,5 @@
 -- A date by its four pairs of digits.
-use Rattle.std.proofs.Common.{◌≡◌, ℕ, ◌+◌, ◌-◌, ◌*◌, List, [], ◌∷◌, length, get_or, refl, ap, ◌∙◌, arith}
+use Rattle.std.proofs.Common.{◌≡◌, ℕ, ◌+◌, ◌*◌, List, [], ◌∷◌, length, get_or, refl, ap, ◌∙◌, arith}
 use Rattle.std.proofs.lemmas.Slice.Eq.{text_from_reads}
 use Rattle.cubit_base.specs.Day.{day_value}
 use Rattle.tbl_text.specs.Field.{IsPair, spelled, date_value}
@@ -8,9 +8,11 @@ use Rattle.tbl_text.specs.Field.{IsPair, spelled, date_value}
 spelled-pairs : (a b c d century year : ℕ) → IsPair a b century → IsPair c d year → spelled (a ∷ b ∷ c ∷ d ∷ []) ≡ century * 100 + year
 spelled-pairs a b c d century year first second = omega arith
 
+-- two digits
 spelled-pair : (a b n : ℕ) → IsPair a b n → spelled (a ∷ b ∷ []) ≡ n
 spelled-pair a b n pair = omega arith
 
+-- a date by its digits
 date_value-digits : (a b c d e f g h century year month day : ℕ) → IsPair a b century → IsPair c d year → IsPair e f month → IsPair g h day
     → date_value (a ∷ b ∷ c ∷ d ∷ 45 ∷ e ∷ f ∷ 45 ∷ g ∷ h ∷ []) ≡ day_value (century * 100 + year) month day
 date_value-digits a b c d e f g h century year month day one two three four =

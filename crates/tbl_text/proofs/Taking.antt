@@ -1,7 +1,7 @@
 -- What a reader takes from the front of a line.
-use Rattle.std.proofs.Common.{◌≡◌, ℕ, suc, ◌+◌, ◌-◌, ◌*◌, ◌<◌, ◌≤◌, Bool, true, false, cond, ◌&&◌, eqb, leb, List, [], ◌∷◌, ◌++◌, length, get_or, take, drop, count_by, Option, None, Some, refl, sym, ap, subst, ◌∙◌, append_assoc, ◌⊎◌, inl, inr, arith}
+use Rattle.std.proofs.Common.{◌≡◌, ℕ, ◌+◌, ◌-◌, ◌*◌, ◌≤◌, Bool, true, false, cond, ◌&&◌, eqb, leb, List, [], ◌∷◌, ◌++◌, length, get_or, take, drop, count_by, Option, None, Some, refl, sym, ap, ◌∙◌, append_assoc, ◌⊎◌, inl, inr, arith}
 use Rattle.std.specs.Prelude.{IfSome}
-use Rattle.std.specs.List.{All, AllPass, list_all, prefix_len}
+use Rattle.std.specs.List.{AllPass, list_all, prefix_len}
 use Rattle.std.proofs.lemmas.Bool.{and_parts, and_from, leb-true, le-leb, ne_eqb, eqb-true}
 use Rattle.std.proofs.lemmas.List.{append-nil, drop_at, take-append-drop}
 use Rattle.std.proofs.lemmas.List.Elements.{All-from_recursion, All-nil, All-cons, All-head, All-tail, All-append}
@@ -20,9 +20,11 @@ takes_field read old field new value cut free reads =
 
 -- ---- digits
 
+-- a digit is no bar
 digit_no_bar : (b : ℕ) → is_digit b ≡ true → eqb b 124 ≡ false
 digit_no_bar b digit = ne_eqb b 124 (λ bar. absurd (omega (arith, leb-true b 57 (and_parts (leb 48 b) (leb b 57) digit).1)))
 
+-- a digit is text
 digit_text : (b : ℕ) → is_digit b ≡ true → is_text_byte b ≡ true
 digit_text b digit =
     let parts = and_parts (leb 48 b) (leb b 57) digit in
@@ -30,12 +32,15 @@ digit_text b digit =
     let high = leb-true b 57 parts.1 in
     and_from (leb 32 b) (leb b 126) (le-leb 32 b (omega arith)) (le-leb b 126 (omega arith))
 
+-- digits have no bar
 digits_free : (digits : List ℕ) → AllPass is_digit digits → IsFree 124 digits
 digits_free digits all k d below = digit_no_bar (get_or digits k d) (all k d below)
 
+-- the same, where a test says that they are digits
 numerals_free : (digits : List ℕ) → list_all is_digit digits ≡ true → IsFree 124 digits
 numerals_free digits all = digits_free digits (AllPass-from_list_all is_digit digits all)
 
+-- a hyphen is no bar
 hyphen_free : (b : ℕ) → eqb b 45 ≡ true → eqb b 124 ≡ false
 hyphen_free b hyphen = ne_eqb b 124 (λ bar. absurd (omega (arith, eqb-true b 45 hyphen)))
 
@@ -55,10 +60,12 @@ leading_digits-append (d ∷ digits) others all stop =
     let rest = All-tail (λ b. is_digit b ≡ true) d digits all in
     take_while-cons is_digit d (digits ++ others) ∙ rw (first, leading_digits-append digits others rest stop) refl
 
+-- and what follows them stands behind the digits at the front
 after_digits-append : (digits others : List ℕ) → AllPass is_digit digits → leading_digits others ≡ [] → after_digits (digits ++ others) ≡ others
 after_digits-append digits others all stop =
     ap (λ front. drop (length front) (digits ++ others)) (leading_digits-append digits others all stop) ∙ drop_at digits others (length digits) refl
 
+-- the digits at the front and what follows them are all
 leading-after : (bytes : List ℕ) → bytes ≡ leading_digits bytes ++ after_digits bytes
 leading-after bytes =
     sym (take-append-drop (prefix_len is_digit bytes) bytes) ∙ ap (λ n. leading_digits bytes ++ drop n bytes) (sym (length-prefix_len is_digit bytes))
@@ -73,6 +80,7 @@ takes_number read old rest decimals new value is_rest cut free reads =
     takes_field read old (leading_digits old ++ decimals) new value whole
     (All-append (λ b. eqb b 124 ≡ false) (leading_digits old) decimals (digits_free (leading_digits old) all) free) reads
 
+-- with nothing behind the digits
 pub takes_integer : (old rest new : List ℕ) (n : ℕ) → integer_value (leading_digits old) ≡ Some n → rest ≡ after_digits old → rest ≡ 124 ∷ new → Takes integer_value old new (Some n)
 takes_integer old rest new n is is_rest cut =
     takes_number integer_value old rest [] new (Some n) is_rest cut (All-nil (λ b. eqb b 124 ≡ false)) (ap integer_value (append-nil (leading_digits old)) ∙ is)
@@ -86,6 +94,7 @@ takes_zeros old rest decimals new n is is_rest cut free stop none =
     rw (after_digits-append (leading_digits old) decimals all stop, leading_digits-append (leading_digits old) decimals all stop, none) is in
     takes_number quantity_value old rest decimals new (Some n) is_rest cut free reads
 
+-- with nothing, or with .00
 pub takes_quantity : (old rest after new : List ℕ) (n : ℕ) → integer_value (leading_digits old) ≡ Some n → rest ≡ after_digits old → (rest ≡ after) ⊎ (rest ≡ 46 ∷ 48 ∷ 48 ∷ after) → after ≡ 124 ∷ new
     → Takes quantity_value old new (Some n)
 takes_quantity old rest after new n is is_rest (inl none) cut =
@@ -94,6 +103,7 @@ takes_quantity old rest after new n is is_rest (inr zeros) cut =
     takes_zeros old rest (46 ∷ 48 ∷ 48 ∷ []) new n is is_rest (zeros ∙ ap (λ r. 46 ∷ 48 ∷ 48 ∷ r) cut)
     (All-from_recursion (λ b. eqb b 124 ≡ false) (46 ∷ 48 ∷ 48 ∷ []) (refl, (refl, (refl, tt)))) refl refl
 
+-- a point and two digits
 hundredths_value-pair : (tens ones n : ℕ) → IsPair tens ones n → hundredths_value (46 ∷ tens ∷ ones ∷ []) ≡ Some n
 hundredths_value-pair tens ones n pair = rw (pair.tens_digit, pair.ones_digit, pair.value) refl
 
@@ -110,10 +120,12 @@ takes_money old rest after new n tens ones hundredths is is_rest behind pair cut
 
 -- ---- dates
 
+-- a chosen value is there only where the test holds
 when_some : (t : Bool) (o : Option ℕ) (n : ℕ) → cond t o None ≡ Some n → t ≡ true
 when_some true o n is = refl
 when_some false o n is = absurd cc
 
+-- a date has no bar
 date_free : (field : List ℕ) (day : ℕ) → date_value field ≡ Some day → IsFree 124 field
 date_free (a ∷ b ∷ c ∷ d ∷ hyphen ∷ e ∷ f ∷ dash ∷ g ∷ h ∷ []) day is =
     let year = a ∷ b ∷ c ∷ d ∷ [] in
@@ -131,12 +143,14 @@ date_free (a ∷ b ∷ c ∷ d ∷ hyphen ∷ e ∷ f ∷ dash ∷ g ∷ h ∷ [
     (All-cons free dash date (hyphen_free dash both.1) (numerals_free date upto_month.1))))
 date_free field day is = absurd cc
 
+-- what was found is a date that is taken
 pub takes_date : (old field new : List ℕ) (found : Option ℕ) → old ≡ field ++ 124 ∷ new → found ≡ date_value field → IfSome found (λ day. Takes date_value old new (Some day))
 takes_date old field new None cut is = tt
 takes_date old field new (Some day) cut is = takes_field date_value old field new (Some day) cut (date_free field day (sym is)) (sym is)
 
 -- ---- the end of a line
 
+-- one more byte of text
 texts-cond : (t : Bool) (b : ℕ) (parts : List (List ℕ)) → is_text_byte b ≡ true → list_all is_text parts ≡ true → list_all is_text (cond t ([] ∷ parts) (onto_first b parts)) ≡ true
 texts-cond true b parts byte texts = texts
 texts-cond false b [] byte texts = rw byte refl
@@ -149,13 +163,15 @@ texts-pieces (b ∷ bytes) text =
     let parts = and_parts (is_text_byte b) (is_text bytes) text in
     texts-cond (eqb b 124) b (pieces 124 bytes) parts.0 (texts-pieces bytes parts.1)
 
+-- five fields of text
 five_texts : (bytes : List ℕ) → length (fields_of bytes) ≡ 5 → is_text bytes ≡ true → IsTail bytes
 five_texts [] count text = absurd (omega arith)
 five_texts (b ∷ bytes) count text = record { count = count; texts = texts-pieces (b ∷ bytes) text }
 
--- five fields, by the bars and whether one of them ends the bytes
+-- five fields, by the bars, where one of them ends the bytes
 pub tail_ended : (bytes : List ℕ) (bars : ℕ) → (1 ≤ length bytes) × (get_or bytes (length bytes - 1) 0 ≡ 124) → bars ≡ count_by (λ b. eqb b 124) bytes → is_text bytes ≡ true → bars ≡ 5 → IsTail bytes
 tail_ended bytes bars ended count text five = five_texts bytes (sym (length-fields_of-ended bytes ended) ∙ sym count ∙ five) text
 
+-- the same, where no bar ends the bytes
 pub tail_open : (bytes : List ℕ) (bars : ℕ) → ((1 ≤ length bytes) × (get_or bytes (length bytes - 1) 0 ≡ 124) → ⊥) → bars ≡ count_by (λ b. eqb b 124) bytes → is_text bytes ≡ true → bars ≡ 4 → IsTail bytes
 tail_open bytes bars open' count text four = five_texts bytes (sym (length-fields_of-open bytes open') ∙ ap (λ n. n + 1) (sym count ∙ four)) text

@@ -5,8 +5,6 @@ use Rattle.std.specs.Prelude.{ok_or}
 use Rattle.std.proofs.lemmas.Bool.{and_parts, le-leb}
 use Rattle.cubit_base.specs.Key.{KeyValue, IsKey}
 use Rattle.cubit_base.specs.Tuple.{TupleValue, IsTuple}
-use Rattle.cubit_base.specs.declared.tuple.Flag.{Flag}
-use Rattle.cubit_base.specs.declared.tuple.LineStatus.{LineStatus}
 use Rattle.tbl_text.specs.declared.line.LineFault.{LineFault}
 use Rattle.tbl_text.specs.declared.line.LineFault.TheVariants as fault
 use Rattle.tbl_text.specs.Cursor.{Takes, IsTail}
@@ -14,12 +12,15 @@ use Rattle.tbl_text.specs.Field.{integer_value, money_value, quantity_value, dat
 use Rattle.tbl_text.specs.Line.{within, text, fields_value, line_value}
 use Rattle.tbl_text.specs.Lines.{pieces, fields_of}
 
+-- a number within the bounds
 within-some : (low high n : ℕ) (number : Option ℕ) (f : LineFault) → number ≡ Some n → low ≤ n → n ≤ high → within low high number f ≡ Ok n
 within-some low high n number f is above below = rw (is, le-leb low n above, le-leb n high below) refl
 
+-- text
 text-ok : (field : List ℕ) → is_text field ≡ true → text field ≡ Ok tt
 text-ok field is = rw is refl
 
+-- a value that is there
 ok_or-some : {A : Type 0} (value : Option A) (x : A) (f : LineFault) → value ≡ Some x → ok_or value f ≡ Ok x
 ok_or-some value x f is = rw is refl
 
@@ -56,10 +57,12 @@ fields_value-taken f1 f2 f3 f4 f5 f6 f7 f8 f9 f10 f11 (f12 ∷ f13 ∷ f14 ∷ f
     refl
 fields_value-taken f1 f2 f3 f4 f5 f6 f7 f8 f9 f10 f11 texts' key t order part supp number qty price disc tax flag status day count texts is_key fits is_tuple = absurd (omega arith)
 
+-- a line with a piece has its pieces for fields
 fields_of-some : (line field : List ℕ) (others : List (List ℕ)) → pieces 124 line ≡ field ∷ others → fields_of line ≡ field ∷ others
 fields_of-some [] field others is = absurd cc
 fields_of-some (b ∷ line) field others is = is
 
+-- the line whose fields were taken one after another
 pub line_value-taken : (line r1 r2 r3 r4 r5 r6 r7 r8 r9 r10 tail : List ℕ) (key : KeyValue) (t : TupleValue)
     → Takes integer_value line r1 (Some key.order) → Takes is_text r1 r2 true → Takes is_text r2 r3 true → Takes integer_value r3 r4 (Some key.line)
     → Takes quantity_value r4 r5 (Some t.qty) → Takes money_value r5 r6 (Some t.price) → Takes money_value r6 r7 (Some t.disc) → Takes money_value r7 r8 (Some t.tax)

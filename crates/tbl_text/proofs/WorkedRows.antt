@@ -1,9 +1,9 @@
 -- The definitions at worked lines: each is computed.
-use Rattle.std.proofs.Common.{◌≡◌, ℕ, List, [], ◌∷◌, Ok, Err, Some, None, refl, codes}
+use Rattle.std.proofs.Common.{◌≡◌, [], ◌∷◌, Err, Some, refl, codes}
 use Rattle.tbl_text.specs.declared.line.LineFault.TheVariants as fault
 use Rattle.tbl_text.specs.Line.{line_value}
-use Rattle.tbl_text.specs.Field.{integer_value, money_value, quantity_value}
-use Rattle.tbl_text.specs.Lines.{lines_of, fields_of}
+use Rattle.tbl_text.specs.Field.{money_value}
+use Rattle.tbl_text.specs.Lines.{lines_of}
 
 money_tenths : money_value (codes "0.1") ≡ Some 10
 money_tenths = refl

@@ -1,5 +1,5 @@
 -- What a field says, where it is spelled as the format wants.
-use Rattle.std.specs.Prelude.{◌≡◌, ℕ, ◌+◌, ◌-◌, ◌*◌, ◌==◌, Bool, ◌&&◌, true, false, nat_le, List, [], ◌∷◌, length, drop, take_while, Option, Some, None, option_map, if◌then◌else◌}
+use Rattle.std.specs.Prelude.{◌≡◌, ℕ, ◌+◌, ◌-◌, ◌*◌, ◌==◌, Bool, ◌&&◌, true, false, nat_le, List, [], ◌∷◌, length, drop, take_while, Option, Some, None, if◌then◌else◌}
 use Rattle.std.specs.List.{list_all}
 use Rattle.cubit_base.specs.declared.tuple.Flag.{Flag}
 use Rattle.cubit_base.specs.declared.tuple.Flag.TheVariants.{A, N, R}

@@ -1,9 +1,9 @@
 //! The common spelling of a line, read in one pass. What this reader takes is the line's value; it gives up at the first
 //! thing that is odd, also at spellings that are accepted and rare.
-ghost use Rattle.std.specs.Prelude.{◌≡◌, ℕ, ◌⊎◌, ◌<◌, ◌≤◌, ◌^◌, ◌∷◌, ◌++◌, ◌==◌, count_by, true, take, length, IfSome};
+ghost use Rattle.std.specs.Prelude.{◌≡◌, ℕ, ◌⊎◌, ◌<◌, ◌≤◌, ◌∷◌, ◌++◌, ◌==◌, count_by, true, take, length, IfSome};
 ghost use Rattle.std.specs.Bool.{OnTrue};
 ghost use Rattle.tbl_text.specs.Cursor.{Takes, Finds, IsTail};
-ghost use Rattle.tbl_text.specs.Field.{IsPair, integer_value, money_value, quantity_value, date_value, flag_value, status_value, is_text, is_text_byte};
+ghost use Rattle.tbl_text.specs.Field.{IsPair, integer_value, money_value, quantity_value, date_value, flag_value, status_value, is_text};
 ghost use Rattle.tbl_text.specs.Line.{line_value};
 
 use crate::field::{date_field, digit_count, flag_of, leading_integer, pair_of, status_of};
@@ -47,7 +47,7 @@ impl<'a> Cursor<'a> {
         ensures value { Finds quantity_value self.old self.new result }
         ensures range { IfSome result (λ n. (1 ≤ n) × (n ≤ 50)) }
     {
-        match self.whole()? {
+        match self.whole_number()? {
             n @ 1..=50 => Some(n as u8),
             _ => None,
         }
@@ -94,7 +94,7 @@ impl<'a> Cursor<'a> {
     fn flag(&mut self) -> Option<Flag>
         ensures { Finds flag_value self.old self.new result }
     {
-        flag_of(self.fixed(1)?)
+        flag_of(self.field_of_len(1)?)
     }
 
     // L_LINESTATUS.
@@ -102,7 +102,7 @@ impl<'a> Cursor<'a> {
     fn status(&mut self) -> Option<LineStatus>
         ensures { Finds status_value self.old self.new result }
     {
-        status_of(self.fixed(1)?)
+        status_of(self.field_of_len(1)?)
     }
 
     // L_SHIPDATE.
@@ -111,7 +111,7 @@ impl<'a> Cursor<'a> {
         ensures value { Finds date_value self.old self.new result }
         ensures range { IfSome result (λ n. n ≤ 2556) }
     {
-        date_field(self.fixed(10)?)
+        date_field(self.field_of_len(10)?)
     }
 
     // An integer.
@@ -126,7 +126,7 @@ impl<'a> Cursor<'a> {
 
     // An integer with no decimals, or with `.00`.
     #[inline(always)]
-    fn whole(&mut self) -> Option<u64>
+    fn whole_number(&mut self) -> Option<u64>
         ensures { Finds quantity_value self.old self.new result }
     {
         let (number, rest) = leading_integer(self.rest)?;
@@ -152,13 +152,13 @@ impl<'a> Cursor<'a> {
             Takes is_text self.old.rest.now self.new.rest.now true) }
     {
         let count = digit_count(self.rest);
-        self.fixed(count)?;
+        self.field_of_len(count)?;
         Some(())
     }
 
     // So many bytes before a bar.
     #[inline(always)]
-    fn fixed(&mut self, len: usize) -> Option<&'a [u8]>
+    fn field_of_len(&mut self, len: usize) -> Option<&'a [u8]>
         ensures cut { IfSome result (λ field. self.old.rest.now ≡ field.now ++ 124 ∷ self.new.rest.now) }
         ensures field { IfSome result (λ field. field.now ≡ take len self.old.rest.now) }
     {
@@ -208,7 +208,7 @@ fn hundredths(bytes: &[u8]) -> Option<(u8, &[u8])>
 
 /// The key and the tuple of a line in the common spelling.
 #[inline(always)]
-pub(crate) fn common(line: &[u8]) -> Option<(Key, Tuple)>
+pub(crate) fn common_spelling(line: &[u8]) -> Option<(Key, Tuple)>
     ensures { IfSome result (λ value. line_value line.now ≡ Ok value) }
 {
     let mut cursor = Cursor { rest: line };

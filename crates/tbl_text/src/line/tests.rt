@@ -99,7 +99,7 @@ fn common_spellings(rt: HostRuntime) -> Result<(), Fail> {
         let line = edited(rt.alloc(), from, to)?;
         let line = line.as_bytes();
         assert!(rt; line.len() < 1000);
-        let value = common(line).ok_or(to)?;
+        let value = common_spelling(line).ok_or(to)?;
         assert_eq!(rt; judged(line), Ok(value), "at {to:?}");
     }
     Ok(())

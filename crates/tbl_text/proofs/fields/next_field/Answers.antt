@@ -1,4 +1,4 @@
-use Rattle.std.proofs.Common.{◌≡◌, ◌∷◌, not, eqb, ap, ◌∙◌, sym, arith}
+use Rattle.std.proofs.Common.{◌∷◌, not, eqb, ap, ◌∙◌, sym, arith}
 use Rattle.std.proofs.lemmas.List.{take_rest}
 use Rattle.std.proofs.lemmas.List.Sums.{prefix_len-le-length}
 use Rattle.tbl_text.specs.Lines.{pieces}

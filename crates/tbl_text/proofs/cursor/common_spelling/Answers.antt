@@ -1,6 +1,6 @@
 use Rattle.std.proofs.Common.{arith}
 use Rattle.tbl_text.proofs.Whole.{line_value-taken}
-use Rattle.tbl_text.proofs.cursor.common.Goals as goal
+use Rattle.tbl_text.proofs.cursor.common_spelling.Goals as goal
 
 pub returns : goal.returns
 returns c =

@@ -1,5 +1,5 @@
 use Rattle.tbl_text.proofs.Taking.{takes_quantity}
-use Rattle.tbl_text.proofs.cursor.Cursor.whole.Goals as goal
+use Rattle.tbl_text.proofs.cursor.Cursor.whole_number.Goals as goal
 
 pub returns : goal.returns
 returns c =
