@@ -1,0 +1,4 @@
+pub mod Canonical
+pub mod Group
+pub mod Rows
+pub mod Word

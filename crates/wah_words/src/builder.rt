@@ -1,0 +1,84 @@
+//! The one writer of words.
+ghost use Rattle.std.specs.Prelude.{ℕ, ◌≡◌, ◌<◌, ◌≤◌, ◌+◌, ◌-◌, ◌^◌, ◌⊎◌, [], ◌∷◌, ◌++◌, length, replicate, IfOk, OnOk, OnErr};
+ghost use Rattle.wah_words.specs.Group.{IsUniform, filled};
+
+use crate::Memory;
+use crate::run::{ALL_TRUE, fill_word};
+use std::alloc::Global;
+use std::marker::Model;
+
+/// Words in the making; contracts see the groups that they stand for.
+#[derive(Drop)]
+pub struct Builder {
+    words: Vec<u32>,
+}
+
+impl Model for Builder {
+    ghost use Rattle.std.specs.Prelude.{List, ℕ};
+
+    ghost Value = { List ℕ };
+
+    ghost use Rattle.wah_words.specs.Word.{groups};
+    ghost use Rattle.wah_words.specs.Canonical.{AreRuns};
+
+    ghost view = { λ b. groups b.words.items };
+
+    ghost invariant = { λ b. AreRuns b.words.items };
+}
+
+impl Builder {
+    /// No groups yet, with room for that many words.
+    pub fn with_capacity(alloc: Global, words: usize) -> Result<Builder, Memory>
+        ensures { IfOk result (λ builder. builder ≡ []) }
+    {
+        Ok(Builder {
+            words: Vec::with_capacity(alloc, words)?,
+        })
+    }
+
+    /// Puts a group at the end whose rows differ.
+    fn push_literal(&mut self, group: u32) -> Result<(), Memory>
+        requires some_true { 0 < group }
+        requires some_false { group < 2 ^ 31 - 1 }
+        ensures ok { OnOk result (self.new ≡ self.old ++ group ∷ []) }
+        ensures err { OnErr result (self.new ≡ self.old) }
+    {
+        self.words.push(group)?;
+        Ok(())
+    }
+
+    /// Puts so many groups at the end whose rows all have the value.
+    pub fn push_fill(&mut self, value: bool, count: u32) -> Result<(), Memory>
+        requires some { 1 ≤ count }
+        requires room { length self.old + count < 2 ^ 30 }
+        ensures ok { OnOk result (self.new ≡ self.old ++ replicate count (filled value)) }
+        ensures err { OnErr result (self.new ≡ self.old) }
+    {
+        let word = fill_word(value, count);
+        // A fill of the same value grows in its place.
+        if let Some(last) = self.words.last_mut() {
+            if *last >> 30 == word >> 30 {
+                *last += count;
+                return Ok(());
+            }
+        }
+        self.words.push(word)?;
+        Ok(())
+    }
+
+    /// Puts so many groups of one value at the end. More than one are all false or all true.
+    pub fn push_run(&mut self, group: u32, count: u32) -> Result<(), Memory>
+        requires group { group < 2 ^ 31 }
+        requires some { 1 ≤ count }
+        requires one_value { IsUniform group ⊎ (count ≡ 1) }
+        requires room { length self.old + count < 2 ^ 30 }
+        ensures ok { OnOk result (self.new ≡ self.old ++ replicate count group) }
+        ensures err { OnErr result (self.new ≡ self.old) }
+    {
+        match group {
+            0 => self.push_fill(false, count),
+            ALL_TRUE => self.push_fill(true, count),
+            _ => self.push_literal(group),
+        }
+    }
+}

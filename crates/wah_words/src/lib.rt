@@ -1,0 +1,9 @@
+//! Bitvectors in the word-aligned hybrid code: 31 rows to a 32-bit word, and runs of equal rows counted.
+#![tactic(auto)]
+
+mod builder;
+mod run;
+mod wah;
+
+pub use std::alloc::AllocError as Memory;
+pub use wah::Wah;

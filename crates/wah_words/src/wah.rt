@@ -1,0 +1,42 @@
+//! Bitvectors.
+ghost use Rattle.std.specs.Prelude.{◌≡◌, ◌<◌, ◌≤◌, [], ◌∷◌, ◌++◌, length, IsTrue, ◌↔◌, IfOk};
+ghost use Rattle.wah_words.specs.Canonical.{Spells};
+
+use crate::Memory;
+use std::alloc::Global;
+use std::marker::Model;
+
+/// A list of truth values as run-length words; contracts see the list.
+#[derive(Drop)]
+pub struct Wah {
+    words: Vec<u32>,
+    rows: u32,
+}
+
+impl Model for Wah {
+    ghost use Rattle.std.specs.Prelude.{List, Bool};
+
+    ghost Value = { List Bool };
+
+    ghost use Rattle.wah_words.specs.Canonical.{IsCanonical, spelled_rows};
+
+    ghost view = { λ w. spelled_rows w.words.items w.rows };
+
+    ghost invariant = { λ w. IsCanonical w.words.items w.rows };
+}
+
+impl Wah {
+    /// The number of rows.
+    pub fn len(&self) -> u32
+        ensures { result ≡ length self.now }
+    {
+        self.rows
+    }
+
+    /// The words that spell the list.
+    pub fn words(&self) -> &[u32]
+        ensures { Spells result.now self.now }
+    {
+        &self.words
+    }
+}
