@@ -30,6 +30,18 @@ run_group-false_fill w head = run_group-fill w (omega arith) ∙ (rw head refl)
 pub run_group-true_fill : (w : ℕ) → w / 2 ^ 30 ≡ 3 → run_group w ≡ 2 ^ 31 - 1
 run_group-true_fill w head = run_group-fill w (omega arith) ∙ (rw head refl)
 
+filled-lt : (value : Bool) → filled value < 2 ^ 31
+filled-lt true = omega arith
+filled-lt false = omega arith
+
+-- a run repeats a group
+pub run_group-lt : (w : ℕ) → run_group w < 2 ^ 31
+run_group-lt w =
+    elim (cases_lt w (2 ^ 31)) [
+      inl low ↦ rw (run_group-literal w low) low
+    | inr high ↦ rw (run_group-fill w high) (filled-lt (eqb (w / 2 ^ 30 % 2) 1))
+    ]
+
 -- one more word at the end
 pub groups-push : (ws : List ℕ) (w : ℕ) → groups (ws ++ w ∷ []) ≡ groups ws ++ replicate (run_count w) (run_group w)
 unfolding word_groups

@@ -1,7 +1,11 @@
 -- Operations on lists of truth values.
-use Rattle.std.specs.Prelude.{ℕ, Bool, List, [], ◌∷◌, map}
+use Rattle.std.specs.Prelude.{ℕ, Bool, List, map, count_by}
 use Rattle.std.specs.List.{zip}
 
 -- what the operation makes of each two rows at one place
 abbrev pub pointwise : (Bool → Bool → Bool) → List Bool → List Bool → List Bool
 pointwise operation a b = map (λ rows. operation rows.0 rows.1) (zip a b)
+
+-- how many rows are true
+abbrev pub true_count : List Bool → ℕ
+true_count list = count_by (λ row. row) list

@@ -1,8 +1,10 @@
 //! Bitvectors.
 ghost use Rattle.std.specs.Prelude.{◌≡◌, ◌<◌, ◌≤◌, [], ◌∷◌, ◌++◌, length, IsTrue, ◌↔◌, IfOk};
 ghost use Rattle.wah_words.specs.Canonical.{Spells};
+ghost use Rattle.wah_words.specs.Rows.{true_count};
 
 use crate::Memory;
+use crate::run::Run;
 use std::alloc::Global;
 use std::marker::Model;
 
@@ -38,5 +40,18 @@ impl Wah {
         ensures { Spells result.now self.now }
     {
         &self.words
+    }
+
+    /// How many rows are true.
+    pub fn count(&self) -> u32
+        ensures { result ≡ true_count self.now }
+    {
+        let mut total = 0;
+        for word in &self.words {
+            prove!(total <= self.rows);
+            let run = Run::of_word(*word);
+            total += run.group.count_ones() * run.count;
+        }
+        total
     }
 }

@@ -1,0 +1,92 @@
+-- The rows that words spell.
+use Rattle.std.proofs.Common.{◌≡◌, ◌≢◌, ℕ, zero, suc, ◌+◌, ◌-◌, ◌*◌, ◌/◌, ◌%◌, ◌^◌, ◌<◌, ◌≤◌, ◌⊎◌, ◌∙◌, Bool, true, false, cond, List, [], ◌∷◌, ◌++◌, length, get_or, take, drop, replicate, refl, sym, ap, subst, arith, zero-add}
+use Rattle.std.specs.Prelude.{All, count_ones, count_by}
+use Rattle.std.proofs.lemmas.List.{append-nil, append_assoc, length-append, length-replicate, length-take, length-take-le, take_more, take-append-drop}
+use Rattle.std.proofs.lemmas.List.Concat.{flat_map-append}
+use Rattle.std.proofs.lemmas.List.Elements.{All-head, All-tail}
+use Rattle.std.proofs.lemmas.List.Sums.{sum_by-append, sum_by-cons, sum_by-take-drop, sum_by-take-le, count_by-le-length}
+use Rattle.wah_words.specs.Group.{low_bits, group_rows, rows_of, group_count}
+use Rattle.wah_words.specs.Rows.{true_count}
+use Rattle.wah_words.specs.Word.{word_groups, groups, run_group, run_count}
+use Rattle.wah_words.specs.Canonical.{IsCanonical, Spells, spelled_rows}
+use Rattle.wah_words.proofs.Bits.{length-low_bits, true_count-low_bits}
+use Rattle.wah_words.proofs.Words.{groups-push, run_group-lt}
+
+pub length-group_rows : (group : ℕ) → length (group_rows group) ≡ 31
+unfolding group_rows
+length-group_rows group = length-low_bits 31 group
+
+pub length-rows_of : (gs : List ℕ) → length (rows_of gs) ≡ 31 * length gs
+length-rows_of [] = refl
+length-rows_of (g ∷ gs) = omega (arith, length-append (group_rows g) (rows_of gs), length-group_rows g, length-rows_of gs)
+
+pub length-spelled_rows : (words : List ℕ) (rows : ℕ) → IsCanonical words rows → length (spelled_rows words rows) ≡ rows
+length-spelled_rows words rows canonical = length-take-le rows (rows_of (groups words)) (omega (arith, length-rows_of (groups words), canonical.size))
+
+pub spells_itself : (words : List ℕ) (rows : ℕ) → IsCanonical words rows → Spells words (spelled_rows words rows)
+spells_itself words rows canonical =
+    let long = length-spelled_rows words rows canonical in
+    record { canonical = rw long canonical; rows = rw long refl }
+
+-- how many rows of groups are true
+true_count-group_rows : (group : ℕ) → group < 2 ^ 31 → true_count (group_rows group) ≡ count_ones group
+unfolding group_rows
+true_count-group_rows group below = true_count-low_bits 31 group below
+
+true_count-append : (a b : List Bool) → true_count (a ++ b) ≡ true_count a + true_count b
+true_count-append a b = sum_by-append (λ row. cond row 1 0) a b
+
+true_count-run : (count group : ℕ) → group < 2 ^ 31 → true_count (rows_of (replicate count group)) ≡ count_ones group * count
+true_count-run zero group below = omega arith
+true_count-run (suc count) group below =
+    omega (arith, true_count-append (group_rows group) (rows_of (replicate count group)), true_count-group_rows group below, true_count-run count group below)
+
+-- one word more
+true_count-more : (words : List ℕ) (i d : ℕ) → i < length words → true_count (rows_of (groups (take (i + 1) words))) ≡ true_count (rows_of (groups (take i words))) + count_ones (run_group (get_or words i d)) * run_count (get_or words i d)
+true_count-more words i d within =
+    let w = get_or words i d in
+    ap (λ ws. true_count (rows_of (groups ws))) (take_more words i d within)
+    ∙ ap (λ gs. true_count (rows_of gs)) (groups-push (take i words) w)
+    ∙ ap true_count (flat_map-append group_rows (groups (take i words)) (replicate (run_count w) (run_group w)))
+    ∙ true_count-append (rows_of (groups (take i words))) (rows_of (replicate (run_count w) (run_group w)))
+    ∙ ap (λ n. true_count (rows_of (groups (take i words))) + n) (true_count-run (run_count w) (run_group w) (run_group-lt w))
+
+-- a front of words has no more true rows than all of them
+true_count-take-le : (words : List ℕ) (i : ℕ) → true_count (rows_of (groups (take i words))) ≤ true_count (rows_of (groups words))
+true_count-take-le words i =
+    let parted : rows_of (groups words) ≡ rows_of (groups (take i words)) ++ rows_of (groups (drop i words)) =
+      ap (λ ws. rows_of (groups ws)) (sym (take-append-drop i words))
+      ∙ ap rows_of (flat_map-append word_groups (take i words) (drop i words))
+      ∙ flat_map-append group_rows (groups (take i words)) (groups (drop i words)) in
+    omega (arith, ap true_count parted, true_count-append (rows_of (groups (take i words))) (rows_of (groups (drop i words))))
+
+-- a total over the words so far, and what one word adds to it
+pub record IsCounted (words : List ℕ) (i total group count : ℕ) : Type 0 where
+  pub within : i < length words
+  pub so_far : total ≡ true_count (rows_of (groups (take i words)))
+  pub group_is : group ≡ run_group (get_or words i 0)
+  pub count_is : count ≡ run_count (get_or words i 0)
+
+pub counted : (words : List ℕ) (i total group count : ℕ) → IsCounted words i total group count → total + count_ones group * count ≡ true_count (rows_of (groups (take (i + 1) words)))
+counted words i total group count is =
+    rw (is.so_far, is.group_is, is.count_is) (sym (true_count-more words i 0 is.within))
+
+true_count-false : (list : List Bool) → All (λ row. row ≡ false) list → true_count list ≡ 0
+true_count-false [] each = refl
+true_count-false (row ∷ list) each =
+    sum_by-cons (λ row. cond row 1 0) row list
+    ∙ (rw (All-head (λ row. row ≡ false) row list each, zero-add) (true_count-false list (All-tail (λ row. row ≡ false) row list each)))
+
+-- the padding has no true row
+pub true_count-spelled_rows : (words : List ℕ) (rows : ℕ) → IsCanonical words rows → true_count (spelled_rows words rows) ≡ true_count (rows_of (groups words))
+true_count-spelled_rows words rows canonical =
+    omega (arith, sum_by-take-drop (λ row. cond row 1 0) (rows_of (groups words)) rows, true_count-false (drop rows (rows_of (groups words))) canonical.padding)
+
+true_count-le-rows : (words : List ℕ) (rows : ℕ) → IsCanonical words rows → true_count (rows_of (groups words)) ≤ rows
+true_count-le-rows words rows canonical =
+    omega (arith, true_count-spelled_rows words rows canonical, count_by-le-length (λ row. row) (spelled_rows words rows), length-spelled_rows words rows canonical)
+
+-- no front of the words has more true rows than there are rows
+pub true_count-front : (words front : List ℕ) (rows i : ℕ) → IsCanonical words rows → front ≡ words → true_count (rows_of (groups (take i front))) ≤ rows
+true_count-front words front rows i canonical same =
+    omega (arith, true_count-take-le front i, ap (λ ws. true_count (rows_of (groups ws))) same, true_count-le-rows words rows canonical)
