@@ -2,10 +2,10 @@
 use Rattle.std.proofs.Common.{◌≡◌, ◌≢◌, ℕ, zero, suc, ◌+◌, ◌-◌, ◌*◌, ◌/◌, ◌%◌, ◌^◌, ◌<◌, ◌≤◌, ◌⊎◌, ◌∙◌, Bool, true, false, cond, ltb, eqb, List, [], ◌∷◌, ◌++◌, length, get_or, set, take, drop, replicate, map, zero-add, refl, sym, ap, subst, arith, rules, inl, inr}
 use Rattle.std.specs.Prelude.{All, count_ones, count_by}
 use lib.Lanes.{mask_l}
-use Rattle.std.proofs.lemmas.List.{append-nil, append_assoc, length-append, length-replicate, map-id, length_push}
+use Rattle.std.proofs.lemmas.List.{append-nil, append_assoc, length-append, length-replicate, map-id, length-take-le, take_more}
 use Rattle.std.proofs.lemmas.List.Elements.{All-replicate, All-head, All-tail}
 use Rattle.std.proofs.lemmas.Simd.{ones-mask_l, mask_l-lt}
-use Rattle.std.proofs.lemmas.Nat.{shr-shr, pow_pos, div-add-mod'}
+use Rattle.std.proofs.lemmas.Nat.{one_shl, shr-shr, pow_pos, div-add-mod'}
 use Rattle.std.proofs.Math.Nat.{pow-suc}
 use Rattle.wah_words.specs.Group.{low_bits, group_rows, rows_of, filled}
 use Rattle.wah_words.specs.Rows.{true_count}
@@ -88,3 +88,23 @@ zero_from_false count n below each = sym (mask-low_bits count n below) ∙ mask-
 pub true_count-low_bits : (count n : ℕ) → n < 2 ^ count → true_count (low_bits count n) ≡ count_ones n
 true_count-low_bits count n below =
     sym (ones-mask_l (λ row. row) (low_bits count n)) ∙ ap (λ bits. count_ones (mask_l bits)) (map-id (low_bits count n)) ∙ ap count_ones (mask-low_bits count n below)
+
+-- one bit more of a front
+mask-more : (bits : List Bool) (i : ℕ) → i < length bits → mask_l (take (i + 1) bits) ≡ mask_l (take i bits) + cond (get_or bits i false) 1 0 * 2 ^ i
+mask-more bits i within =
+    let long : length (take i bits) ≡ i = length-take-le i bits (omega arith) in
+    ap mask_l (take_more bits i false within) ∙ mask-push (take i bits) (get_or bits i false) ∙ ap (λ k. mask_l (take i bits) + cond (get_or bits i false) 1 0 * 2 ^ k) long
+
+pub mask-more_true : (bits : List Bool) (i group : ℕ) → i < length bits → i < 32 → get_or bits i false ≡ true → group ≡ mask_l (take i bits) → group + 1 * 2 ^ i % 2 ^ 32 ≡ mask_l (take (i + 1) bits)
+mask-more_true bits i group within low is so_far =
+    let more : mask_l (take (i + 1) bits) ≡ mask_l (take i bits) + 1 * 2 ^ i = rw is at (mask-more bits i within) in
+    let whole = one_shl i 32 low in
+    omega arith
+
+pub mask-more_false : (bits : List Bool) (i group : ℕ) → i < length bits → get_or bits i false ≡ false → group ≡ mask_l (take i bits) → group ≡ mask_l (take (i + 1) bits)
+mask-more_false bits i group within is so_far =
+    let more : mask_l (take (i + 1) bits) ≡ mask_l (take i bits) + 0 * 2 ^ i = rw is at (mask-more bits i within) in
+    omega arith
+
+pub mask_front-lt : (bits : List Bool) (i : ℕ) → i ≤ length bits → mask_l (take i bits) < 2 ^ i
+mask_front-lt bits i within = rw (length-take-le i bits within) at (mask_l-lt (take i bits))

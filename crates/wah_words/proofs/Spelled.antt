@@ -1,11 +1,11 @@
 -- The rows that words spell.
-use Rattle.std.proofs.Common.{◌≡◌, ◌≢◌, ℕ, zero, suc, ◌+◌, ◌-◌, ◌*◌, ◌/◌, ◌%◌, ◌^◌, ◌<◌, ◌≤◌, ◌⊎◌, ◌∙◌, Bool, true, false, cond, List, [], ◌∷◌, ◌++◌, length, get_or, take, drop, replicate, refl, sym, ap, subst, arith, zero-add}
+use Rattle.std.proofs.Common.{◌≡◌, ◌≢◌, ℕ, zero, suc, ◌+◌, ◌-◌, ◌*◌, ◌/◌, ◌%◌, ◌^◌, ◌<◌, ◌≤◌, ◌⊎◌, ◌∙◌, Bool, true, false, cond, List, [], ◌∷◌, ◌++◌, length, get_or, take, drop, replicate, refl, sym, ap, subst, arith, zero-add, take-add}
 use Rattle.std.specs.Prelude.{All, count_ones, count_by}
-use Rattle.std.proofs.lemmas.List.{append-nil, append_assoc, length-append, length-replicate, length-take, length-take-le, take_more, take-append-drop}
+use Rattle.std.proofs.lemmas.List.{append-nil, append_assoc, length-append, length-replicate, length-take, length-take-le, length-drop, take_more, take-append-drop, take_at, drop_at}
 use Rattle.std.proofs.lemmas.List.Concat.{flat_map-append}
-use Rattle.std.proofs.lemmas.List.Elements.{All-head, All-tail}
+use Rattle.std.proofs.lemmas.List.Elements.{All-head, All-tail, All-replicate}
 use Rattle.std.proofs.lemmas.List.Sums.{sum_by-append, sum_by-cons, sum_by-take-drop, sum_by-take-le, count_by-le-length}
-use Rattle.wah_words.specs.Group.{low_bits, group_rows, rows_of, group_count}
+use Rattle.wah_words.specs.Group.{low_bits, group_rows, rows_of, group_count, Holds}
 use Rattle.wah_words.specs.Rows.{true_count}
 use Rattle.wah_words.specs.Word.{word_groups, groups, run_group, run_count}
 use Rattle.wah_words.specs.Canonical.{IsCanonical, Spells, spelled_rows}
@@ -90,3 +90,42 @@ true_count-le-rows words rows canonical =
 pub true_count-front : (words front : List ℕ) (rows i : ℕ) → IsCanonical words rows → front ≡ words → true_count (rows_of (groups (take i front))) ≤ rows
 true_count-front words front rows i canonical same =
     omega (arith, true_count-take-le front i, ap (λ ws. true_count (rows_of (groups ws))) same, true_count-le-rows words rows canonical)
+
+-- one group more
+pub rows_of-push : (gs : List ℕ) (g : ℕ) → rows_of (gs ++ g ∷ []) ≡ rows_of gs ++ group_rows g
+rows_of-push gs g = flat_map-append group_rows gs (g ∷ []) ∙ ap (λ rows. rows_of gs ++ rows) (append-nil (group_rows g))
+
+-- a whole group of rows more
+pub whole_group : (gs : List ℕ) (rows chunk : List Bool) (i g : ℕ) → rows_of gs ≡ take (31 * i) rows → chunk ≡ take 31 (drop (31 * i) rows) → 31 * i + 31 ≤ length rows → group_rows g ≡ chunk ++ replicate (31 - length chunk) false → rows_of (gs ++ g ∷ []) ≡ take (31 * (i + 1)) rows
+whole_group gs rows chunk i g so_far is within group =
+    let long : length chunk ≡ 31 = ap length is ∙ length-take-le 31 (drop (31 * i) rows) (omega (arith, length-drop (31 * i) rows)) in
+    let none : 31 - length chunk ≡ 0 = omega arith in
+    let next : 31 * i + 31 ≡ 31 * (i + 1) = omega arith in
+    rows_of-push gs g
+    ∙ ap (λ front. front ++ group_rows g) so_far
+    ∙ ap (λ last. take (31 * i) rows ++ last) (group ∙ ap (λ count. chunk ++ replicate count false) none ∙ append-nil chunk ∙ is)
+    ∙ sym (take-add (31 * i) 31 rows)
+    ∙ ap (λ n. take n rows) next
+
+-- the rows that make no whole group
+pub last_group : (gs : List ℕ) (rows chunk : List Bool) (i g : ℕ) → rows_of gs ≡ take (31 * i) rows → chunk ≡ drop (31 * i) rows → group_rows g ≡ chunk ++ replicate (31 - length chunk) false → rows_of (gs ++ g ∷ []) ≡ rows ++ replicate (31 - length chunk) false
+last_group gs rows chunk i g so_far is group =
+    rows_of-push gs g
+    ∙ ap (λ front. front ++ group_rows g) so_far
+    ∙ ap (λ last. take (31 * i) rows ++ last) (group ∙ ap (λ part. part ++ replicate (31 - length chunk) false) is)
+    ∙ sym (append_assoc (take (31 * i) rows) (drop (31 * i) rows) (replicate (31 - length chunk) false))
+    ∙ ap (λ all. all ++ replicate (31 - length chunk) false) (take-append-drop (31 * i) rows)
+
+-- groups that hold the rows are as many as the rows take
+pub length-held : (gs : List ℕ) (rows : List Bool) → Holds gs rows → length gs ≡ group_count (length rows)
+length-held gs rows holds =
+    let long : 31 * length gs ≡ length rows + holds.padding =
+      sym (length-rows_of gs) ∙ ap length holds.is ∙ length-append rows (replicate holds.padding false) ∙ ap (λ n. length rows + n) (length-replicate holds.padding false) in
+    omega (arith, holds.few)
+
+pub padding_held : (gs : List ℕ) (rows : List Bool) → Holds gs rows → All (λ row. row ≡ false) (drop (length rows) (rows_of gs))
+padding_held gs rows holds =
+    rw (holds.is, drop_at rows (replicate holds.padding false) (length rows) refl) (All-replicate (λ row. row ≡ false) holds.padding false refl)
+
+pub rows_held : (gs : List ℕ) (rows : List Bool) → Holds gs rows → take (length rows) (rows_of gs) ≡ rows
+rows_held gs rows holds = rw (holds.is, take_at rows (replicate holds.padding false) (length rows) refl) refl

@@ -1,6 +1,8 @@
 //! The one writer of words.
 ghost use Rattle.std.specs.Prelude.{ℕ, ◌≡◌, ◌<◌, ◌≤◌, ◌+◌, ◌-◌, ◌^◌, ◌⊎◌, [], ◌∷◌, ◌++◌, length, replicate, IfOk, OnOk, OnErr};
 ghost use Rattle.wah_words.specs.Group.{IsUniform, filled};
+ghost use Rattle.wah_words.specs.Word.{groups};
+ghost use Rattle.wah_words.specs.Canonical.{AreRuns};
 
 use crate::Memory;
 use crate::run::{ALL_TRUE, fill_word};
@@ -80,5 +82,13 @@ impl Builder {
             ALL_TRUE => self.push_fill(true, count),
             _ => self.push_literal(group),
         }
+    }
+
+    /// The words.
+    pub fn into_words(self) -> Vec<u32>
+        ensures runs { AreRuns result.items }
+        ensures groups { groups result.items ≡ self }
+    {
+        self.words
     }
 }

@@ -1,6 +1,6 @@
 //! Words, read as runs of groups.
-ghost use Rattle.std.specs.Prelude.{◌≡◌, ◌<◌, ◌≤◌, ◌^◌};
-ghost use Rattle.wah_words.specs.Group.{filled};
+ghost use Rattle.std.specs.Prelude.{◌≡◌, ◌<◌, ◌≤◌, ◌-◌, ◌^◌, ◌++◌, false, length, replicate};
+ghost use Rattle.wah_words.specs.Group.{filled, group_count as groups_for, group_rows};
 ghost use Rattle.wah_words.specs.Word.{run_group, run_count};
 
 /// The group whose 31 rows are all true.
@@ -49,4 +49,26 @@ pub fn fill_word(value: bool, count: u32) -> u32
     } else {
         FALSE_FILL + count
     }
+}
+
+/// How many groups hold so many rows.
+pub fn group_count(rows: u32) -> u32
+    ensures { result ≡ groups_for rows }
+{
+    rows.div_ceil(31)
+}
+
+/// The group that begins with these rows, at most 31, and ends in false.
+pub fn group_of(rows: &[bool]) -> u32
+    requires { length rows.now ≤ 31 }
+    ensures within { result < 2 ^ 31 }
+    ensures rows { group_rows result ≡ rows.now ++ replicate (31 - length rows.now) false }
+{
+    let mut group = 0;
+    for (place, row) in rows.iter().enumerate() {
+        if *row {
+            group += 1u32 << place;
+        }
+    }
+    group
 }

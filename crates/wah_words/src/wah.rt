@@ -1,10 +1,12 @@
 //! Bitvectors.
-ghost use Rattle.std.specs.Prelude.{◌≡◌, ◌<◌, ◌≤◌, [], ◌∷◌, ◌++◌, length, IsTrue, ◌↔◌, IfOk};
+ghost use Rattle.std.specs.Prelude.{◌≡◌, ◌<◌, ◌≤◌, ◌^◌, [], ◌∷◌, ◌++◌, false, length, take, drop, All, IsTrue, ◌↔◌, IfOk};
+ghost use Rattle.wah_words.specs.Group.{Holds, group_count as groups_for, rows_of};
 ghost use Rattle.wah_words.specs.Canonical.{Spells};
 ghost use Rattle.wah_words.specs.Rows.{true_count};
 
 use crate::Memory;
-use crate::run::Run;
+use crate::builder::Builder;
+use crate::run::{Run, group_of};
 use std::alloc::Global;
 use std::marker::Model;
 
@@ -28,6 +30,45 @@ impl Model for Wah {
 }
 
 impl Wah {
+    /// The list of these truth values, at most 4,294,967,295.
+    pub fn from_rows(alloc: Global, rows: &[bool]) -> Result<Wah, Memory>
+        requires { length rows.now < 2 ^ 32 }
+        ensures { IfOk result (λ wah. wah ≡ rows.now) }
+    {
+        let groups = Wah::groups_of(alloc, rows)?;
+        Ok(Wah::of_groups(groups, rows.len() as u32))
+    }
+
+    /// The groups of these truth values.
+    fn groups_of(alloc: Global, rows: &[bool]) -> Result<Builder, Memory>
+        requires { length rows.now < 2 ^ 32 }
+        ensures { IfOk result (λ groups. Holds groups rows.now) }
+    {
+        let mut out = Builder::with_capacity(alloc, rows.len().div_ceil(31))?;
+        let whole = rows.len() / 31;
+        for i in 0..whole {
+            out.push_run(group_of(&rows[31 * i..31 * i + 31]), 1)?;
+        }
+        let rest = &rows[31 * whole..];
+        if rest.is_empty() {
+            return Ok(out);
+        }
+        out.push_run(group_of(rest), 1)?;
+        Ok(out)
+    }
+
+    /// The first rows of groups that have no true row after them.
+    fn of_groups(groups: Builder, rows: u32) -> Wah
+        requires size { length groups ≡ groups_for rows }
+        requires padding { All (λ row. row ≡ false) (drop rows (rows_of groups)) }
+        ensures { result ≡ take rows (rows_of groups) }
+    {
+        Wah {
+            words: groups.into_words(),
+            rows,
+        }
+    }
+
     /// The number of rows.
     pub fn len(&self) -> u32
         ensures { result ≡ length self.now }
