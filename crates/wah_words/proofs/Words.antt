@@ -130,7 +130,7 @@ run_count-last ws n last d long some is =
     omega arith
 
 -- two fills with one head have one value
-pub run_group-same_head : (v w : ℕ) → v / 2 ^ 30 ≡ w / 2 ^ 30 → 2 ^ 31 ≤ w → run_group v ≡ run_group w
+run_group-same_head : (v w : ℕ) → v / 2 ^ 30 ≡ w / 2 ^ 30 → 2 ^ 31 ≤ w → run_group v ≡ run_group w
 run_group-same_head v w head above = run_group-fill v (omega arith) ∙ (rw head refl) ∙ sym (run_group-fill w above)
 
 -- the head of a fill of 32 bits
@@ -144,7 +144,7 @@ same_from_heads v w (inr a) (inl b) same = absurd (omega (arith, run_group-true_
 same_from_heads v w (inr a) (inr b) same = omega arith
 
 -- two fills of one value have one head
-same_head : (v w : ℕ) → 2 ^ 31 ≤ v → v < 2 ^ 32 → 2 ^ 31 ≤ w → w < 2 ^ 32 → run_group v ≡ run_group w → v / 2 ^ 30 ≡ w / 2 ^ 30
+pub same_head : (v w : ℕ) → 2 ^ 31 ≤ v → v < 2 ^ 32 → 2 ^ 31 ≤ w → w < 2 ^ 32 → run_group v ≡ run_group w → v / 2 ^ 30 ≡ w / 2 ^ 30
 same_head v w v_above v_below w_above w_below same =
     same_from_heads v w (heads v v_above v_below) (heads w w_above w_below) same
 
@@ -168,35 +168,34 @@ AreRuns-grown front last count runs above room =
     (λ some before _ same.
       apart_last front last runs some before above (same ∙ run_group-grown last count above room))
 
--- the last of some words is a fill with the head of w, and there is room for so many groups more
+-- the last of some words is a fill of the value of w, and there is room for so many groups more
 pub record MayGrow (ws : List ℕ) (n last w count : ℕ) : Type 0 where
   pub long : length ws ≡ n
   pub some : 0 < n
   pub is : last ≡ get_or ws (n - 1) last
-  pub head : last / 2 ^ 30 ≡ w / 2 ^ 30
-  pub above : 2 ^ 31 ≤ w
+  pub above : 2 ^ 31 ≤ last
+  pub same : run_group last ≡ run_group w
   pub room : length (groups ws) + count < 2 ^ 30
 
 -- the count of that fill stays within its bits
 pub last_room : (ws : List ℕ) (n last w count : ℕ) → MayGrow ws n last w count → last % 2 ^ 30 + count < 2 ^ 30
 last_room ws n last w count may =
-    let above : 2 ^ 31 ≤ last = omega (arith, may.head, may.above) in
-    omega (arith, run_count-last ws n last last may.long may.some may.is, run_count-fill last above, may.room)
+    omega (arith, run_count-last ws n last last may.long may.some may.is, run_count-fill last may.above, may.room)
 
 -- that fill grown in its place
 pub groups-set_last : (ws : List ℕ) (n last w count : ℕ) → MayGrow ws n last w count → groups (set ws (n - 1) (last + count)) ≡ groups ws ++ replicate count (run_group w)
 groups-set_last ws n last w count may =
     ap groups (set_last ws n (last + count) may.long may.some)
-    ∙ groups-grown (take (n - 1) ws) last count (omega (arith, may.head, may.above)) (last_room ws n last w count may)
+    ∙ groups-grown (take (n - 1) ws) last count may.above (last_room ws n last w count may)
     ∙ ap (λ all. groups all ++ replicate count (run_group last)) (sym (last_apart ws n last last may.long may.some may.is))
-    ∙ ap (λ group. groups ws ++ replicate count group) (run_group-same_head last w may.head may.above)
+    ∙ ap (λ group. groups ws ++ replicate count group) may.same
 
 pub AreRuns-set_last : (ws : List ℕ) (n last w count : ℕ) → MayGrow ws n last w count → AreRuns ws → AreRuns (set ws (n - 1) (last + count))
 AreRuns-set_last ws n last w count may runs =
     let apart = last_apart ws n last last may.long may.some may.is in
     let parted : AreRuns (take (n - 1) ws ++ last ∷ []) = subst AreRuns apart runs in
     subst AreRuns (sym (set_last ws n (last + count) may.long may.some))
-    (AreRuns-grown (take (n - 1) ws) last count parted (omega (arith, may.head, may.above)) (last_room ws n last w count may))
+    (AreRuns-grown (take (n - 1) ws) last count parted may.above (last_room ws n last w count may))
 
 after_other_head : (ws : List ℕ) (i w : ℕ) → 2 ^ 31 ≤ w → w < 2 ^ 32 → i < length ws → (last : ℕ) × (last ≡ get_or ws i last) × (last / 2 ^ 30 ≢ w / 2 ^ 30) × (last < 2 ^ 32) → AreApart (get_or ws i 0) w
 after_other_head ws i w above within inside (last, is, apart, below) before _ same =
@@ -207,8 +206,11 @@ after_other_head ws i w above within inside (last, is, apart, below) before _ sa
 pub set_last_same : (ws : List ℕ) (i last : ℕ) → last ≡ get_or ws i last → set ws i last ≡ ws
 set_last_same ws i last is = ap (λ w. set ws i w) is ∙ set-get_or ws i last
 
--- a fill after a last word with another head
-pub AreRuns-push_fill : (ws : List ℕ) (n w : ℕ) → length ws ≡ n → AreRuns ws → 2 ^ 31 ≤ w → w < 2 ^ 32 → 1 ≤ run_count w → (0 < n → (last : ℕ) × (last ≡ get_or ws (n - 1) last) × (last / 2 ^ 30 ≢ w / 2 ^ 30) × (last < 2 ^ 32)) → AreRuns (ws ++ w ∷ [])
-AreRuns-push_fill ws n w long runs above within some last =
+after_last : (ws : List ℕ) (i w : ℕ) → i < length ws → (last : ℕ) × (last ≡ get_or ws i last) × AreApart last w → AreApart (get_or ws i 0) w
+after_last ws i w inside (last, is, apart) = rw (is ∙ get_or_default ws i last 0 inside) at apart
+
+-- a fill after a last word that it does not join
+pub AreRuns-push_fill : (ws : List ℕ) (n w : ℕ) → length ws ≡ n → AreRuns ws → 2 ^ 31 ≤ w → 1 ≤ run_count w → (0 < n → (last : ℕ) × (last ≡ get_or ws (n - 1) last) × AreApart last w) → AreRuns (ws ++ w ∷ [])
+AreRuns-push_fill ws n w long runs above some last =
     AreRuns-push ws w runs (record { literal = λ low. absurd (omega arith); fill = λ _. some })
-    (λ there. rw long (after_other_head ws (n - 1) w above within (omega arith) (last (omega arith))))
+    (λ there. rw long (after_last ws (n - 1) w (omega arith) (last (omega arith))))

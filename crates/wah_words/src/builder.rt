@@ -5,7 +5,7 @@ ghost use Rattle.wah_words.specs.Word.{groups};
 ghost use Rattle.wah_words.specs.Canonical.{AreRuns};
 
 use crate::Memory;
-use crate::run::{ALL_TRUE, fill_word};
+use crate::run::{ALL_TRUE, fill_word, joins};
 use std::alloc::Global;
 use std::marker::Model;
 
@@ -59,7 +59,7 @@ impl Builder {
         let word = fill_word(value, count);
         // A fill of the same value grows in its place.
         if let Some(last) = self.words.last_mut() {
-            if *last >> 30 == word >> 30 {
+            if joins(*last, word) {
                 *last += count;
                 return Ok(());
             }

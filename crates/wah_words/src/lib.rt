@@ -2,6 +2,7 @@
 #![tactic(auto)]
 
 mod builder;
+mod operation;
 mod run;
 mod wah;
 

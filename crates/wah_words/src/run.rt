@@ -1,7 +1,8 @@
 //! Words, read as runs of groups.
-ghost use Rattle.std.specs.Prelude.{◌≡◌, ◌<◌, ◌≤◌, ◌-◌, ◌^◌, ◌++◌, false, length, replicate};
+ghost use Rattle.std.specs.Prelude.{◌≡◌, ◌<◌, ◌≤◌, ◌-◌, ◌^◌, ◌++◌, ◌↔◌, IsTrue, false, length, replicate};
 ghost use Rattle.wah_words.specs.Group.{filled, group_count as groups_for, group_rows};
 ghost use Rattle.wah_words.specs.Word.{run_group, run_count};
+ghost use Rattle.wah_words.specs.Canonical.{IsCanonical, IsCountedFill, IsMixedLiteral};
 
 /// The group whose 31 rows are all true.
 pub const ALL_TRUE: u32 = 0x7fff_ffff;
@@ -71,4 +72,44 @@ pub fn group_of(rows: &[bool]) -> u32
         }
     }
     group
+}
+
+/// Whether a word may stand among canonical words.
+fn is_proper(word: u32) -> bool
+    ensures { IsTrue result ↔ (IsMixedLiteral word × IsCountedFill word) }
+{
+    if word < FALSE_FILL {
+        0 < word && word < ALL_TRUE
+    } else {
+        Run::of_word(word).count != 0
+    }
+}
+
+/// Whether two words side by side are fills of one value, which one fill could stand for.
+pub fn joins(previous: u32, word: u32) -> bool
+    ensures { IsTrue result ↔ ((2 ^ 31 ≤ previous) × (2 ^ 31 ≤ word) × (run_group previous ≡ run_group word)) }
+{
+    previous >= FALSE_FILL && previous >> 30 == word >> 30
+}
+
+/// Whether the words are in the canonical form for so many rows.
+pub fn is_canonical(words: &[u32], rows: u32) -> bool
+    ensures { IsTrue result ↔ IsCanonical words.now rows }
+{
+    let mut left = group_count(rows);
+    // A literal joins no word, so the first word has no neighbour to fear.
+    let mut previous = 1;
+    for word in words {
+        let run = Run::of_word(*word);
+        if !is_proper(*word) || joins(previous, *word) || left < run.count {
+            return false;
+        }
+        left -= run.count;
+        previous = *word;
+    }
+    if left != 0 {
+        return false;
+    }
+    let last_rows = rows % 31;
+    last_rows == 0 || Run::of_word(previous).group >> last_rows == 0
 }

@@ -1,12 +1,12 @@
 //! Bitvectors.
-ghost use Rattle.std.specs.Prelude.{◌≡◌, ◌<◌, ◌≤◌, ◌^◌, [], ◌∷◌, ◌++◌, false, length, take, drop, All, IsTrue, ◌↔◌, IfOk};
+ghost use Rattle.std.specs.Prelude.{◌≡◌, ◌<◌, ◌≤◌, ◌^◌, [], ◌∷◌, ◌++◌, false, length, take, drop, All, ◌↔◌, IfOk, IfSome, IsSome};
 ghost use Rattle.wah_words.specs.Group.{Holds, group_count as groups_for, rows_of};
-ghost use Rattle.wah_words.specs.Canonical.{Spells};
+ghost use Rattle.wah_words.specs.Canonical.{IsCanonical, Spells};
 ghost use Rattle.wah_words.specs.Rows.{true_count};
 
 use crate::Memory;
 use crate::builder::Builder;
-use crate::run::{Run, group_of};
+use crate::run::{Run, group_of, is_canonical};
 use std::alloc::Global;
 use std::marker::Model;
 
@@ -37,6 +37,19 @@ impl Wah {
     {
         let groups = Wah::groups_of(alloc, rows)?;
         Ok(Wah::of_groups(groups, rows.len() as u32))
+    }
+
+    /// The bitvector of these words, or none where they are not in the canonical form for so many rows.
+    /// It takes no memory.
+    pub fn from_words(words: Vec<u32>, rows: u32) -> Option<Wah>
+        ensures canonical { IsSome result ↔ IsCanonical words.items rows }
+        ensures list { IfSome result (λ wah. Spells words.items wah) }
+        ensures rows { IfSome result (λ wah. length wah ≡ rows) }
+    {
+        if !is_canonical(&words, rows) {
+            return None;
+        }
+        Some(Wah { words, rows })
     }
 
     /// The groups of these truth values.
