@@ -1,4 +1,5 @@
 pub mod Bits
+pub mod Pointwise
 pub mod Reading
 pub mod Spelled
 pub mod Words

@@ -1,5 +1,5 @@
 -- A group is 31 rows side by side, as a number below 2 ^ 31 whose lowest bit is the first row.
-use Rattle.std.specs.Prelude.{ℕ, zero, suc, ◌+◌, ◌-◌, ◌/◌, ◌%◌, ◌^◌, ◌≡◌, ◌⊎◌, ◌==◌, Bool, List, [], ◌∷◌, ◌++◌, ◌<◌, false, replicate, if◌then◌else◌}
+use Rattle.std.specs.Prelude.{ℕ, zero, suc, ◌+◌, ◌-◌, ◌/◌, ◌%◌, ◌^◌, ◌≡◌, ◌==◌, ◌||◌, IsTrue, Bool, List, [], ◌∷◌, ◌++◌, ◌<◌, false, replicate, if◌then◌else◌}
 use Rattle.std.specs.List.{flat_map}
 
 -- the lowest bits of a number, as many as are wanted, from the lowest
@@ -25,7 +25,7 @@ filled value = if value then 2 ^ 31 - 1 else 0
 
 -- all rows of the group have one value
 abbrev pub IsUniform : ℕ → Type 0
-IsUniform group = (group ≡ 0) ⊎ (group ≡ 2 ^ 31 - 1)
+IsUniform group = IsTrue (group == 0 || group == 2 ^ 31 - 1)
 
 -- the groups hold the rows, with false in what is left of the last group
 pub record Holds (groups : List ℕ) (rows : List Bool) : Type 0 where

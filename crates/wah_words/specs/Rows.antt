@@ -1,6 +1,10 @@
 -- Operations on lists of truth values.
-use Rattle.std.specs.Prelude.{ℕ, Bool, List, map, count_by}
+use Rattle.std.specs.Prelude.{ℕ, Bool, not, List, map, count_by, if◌then◌else◌}
 use Rattle.std.specs.List.{zip}
+
+-- one of the two is true, and not the other
+abbrev pub differs : Bool → Bool → Bool
+differs a b = if a then not b else b
 
 -- what the operation makes of each two rows at one place
 abbrev pub pointwise : (Bool → Bool → Bool) → List Bool → List Bool → List Bool

@@ -1,11 +1,11 @@
 //! The one writer of words.
-ghost use Rattle.std.specs.Prelude.{ℕ, ◌≡◌, ◌<◌, ◌≤◌, ◌+◌, ◌-◌, ◌^◌, ◌⊎◌, [], ◌∷◌, ◌++◌, length, replicate, IfOk, OnOk, OnErr};
-ghost use Rattle.wah_words.specs.Group.{IsUniform, filled};
+ghost use Rattle.std.specs.Prelude.{ℕ, ◌≡◌, ◌<◌, ◌≤◌, ◌+◌, ◌-◌, ◌^◌, [], ◌∷◌, ◌++◌, length, replicate, IfOk, OnOk, OnErr};
+ghost use Rattle.wah_words.specs.Group.{filled};
 ghost use Rattle.wah_words.specs.Word.{groups};
 ghost use Rattle.wah_words.specs.Canonical.{AreRuns};
 
 use crate::Memory;
-use crate::run::{ALL_TRUE, fill_word, joins};
+use crate::run::{ALL_TRUE, Run, fill_word, joins};
 use std::alloc::Global;
 use std::marker::Model;
 
@@ -68,20 +68,28 @@ impl Builder {
         Ok(())
     }
 
-    /// Puts so many groups of one value at the end. More than one are all false or all true.
-    pub fn push_run(&mut self, group: u32, count: u32) -> Result<(), Memory>
-        requires group { group < 2 ^ 31 }
-        requires some { 1 ≤ count }
-        requires one_value { IsUniform group ⊎ (count ≡ 1) }
-        requires room { length self.old + count < 2 ^ 30 }
-        ensures ok { OnOk result (self.new ≡ self.old ++ replicate count group) }
+    /// Puts a run at the end.
+    pub fn push_run(&mut self, run: Run) -> Result<(), Memory>
+        requires some { 1 ≤ run.count }
+        requires room { length self.old + run.count < 2 ^ 30 }
+        ensures ok { OnOk result (self.new ≡ self.old ++ replicate run.count run.group) }
         ensures err { OnErr result (self.new ≡ self.old) }
     {
-        match group {
-            0 => self.push_fill(false, count),
-            ALL_TRUE => self.push_fill(true, count),
-            _ => self.push_literal(group),
+        match run.group {
+            0 => self.push_fill(false, run.count),
+            ALL_TRUE => self.push_fill(true, run.count),
+            group => self.push_literal(group),
         }
+    }
+
+    /// Puts one group at the end.
+    pub fn push_group(&mut self, group: u32) -> Result<(), Memory>
+        requires within { group < 2 ^ 31 }
+        requires room { length self.old + 1 < 2 ^ 30 }
+        ensures ok { OnOk result (self.new ≡ self.old ++ group ∷ []) }
+        ensures err { OnErr result (self.new ≡ self.old) }
+    {
+        self.push_run(Run { group, count: 1 })
     }
 
     /// The words.

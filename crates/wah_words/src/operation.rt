@@ -1,7 +1,7 @@
 //! Operations on two rows, one group at a time.
-ghost use Rattle.std.specs.Prelude.{◌≡◌, ◌<◌, ◌^◌, Bool, ◌&&◌, ◌||◌, not};
+ghost use Rattle.std.specs.Prelude.{◌≡◌, ◌<◌, ◌^◌, Bool, ◌&&◌, ◌||◌};
 ghost use Rattle.wah_words.specs.Group.{IsUniform, group_rows};
-ghost use Rattle.wah_words.specs.Rows.{pointwise};
+ghost use Rattle.wah_words.specs.Rows.{differs, pointwise};
 
 /// An operation on two truth values that makes false of two that are false.
 pub trait Operation {
@@ -39,7 +39,7 @@ impl Operation for Or {
 pub struct Xor;
 
 impl Operation for Xor {
-    ghost of_rows = { λ a b. if a then not b else b };
+    ghost of_rows = { differs };
 
     fn of_groups(a: u32, b: u32) -> u32 {
         a ^ b

@@ -1,6 +1,6 @@
 //! Words, read as runs of groups.
-ghost use Rattle.std.specs.Prelude.{◌≡◌, ◌<◌, ◌≤◌, ◌-◌, ◌^◌, ◌++◌, ◌↔◌, IsTrue, false, length, replicate};
-ghost use Rattle.wah_words.specs.Group.{filled, group_count as groups_for, group_rows};
+ghost use Rattle.std.specs.Prelude.{◌≡◌, ◌<◌, ◌≤◌, ◌-◌, ◌^◌, ◌++◌, ◌↔◌, IsTrue, false, not, length, map, replicate};
+ghost use Rattle.wah_words.specs.Group.{IsUniform, filled, group_count as groups_for, group_rows};
 ghost use Rattle.wah_words.specs.Word.{run_group, run_count};
 ghost use Rattle.wah_words.specs.Canonical.{IsCanonical, IsCountedFill, IsMixedLiteral};
 
@@ -11,11 +11,13 @@ const FALSE_FILL: u32 = 0x8000_0000;
 /// The lowest fill of true rows.
 const TRUE_FILL: u32 = 0xc000_0000;
 
-/// So many groups of one value, side by side.
+/// So many groups of one value, side by side. More than one are all false or all true.
 #[derive(Clone, Copy)]
 pub struct Run {
     pub group: u32,
     pub count: u32,
+    ghost within: { group < 2 ^ 31 },
+    ghost uniform: { 1 < count → IsUniform group },
 }
 
 impl Run {
@@ -34,6 +36,17 @@ impl Run {
         Run {
             group,
             count: word & 0x3fff_ffff,
+        }
+    }
+
+    /// The run whose rows are the others.
+    pub fn complement(self) -> Run
+        ensures count { result.count ≡ self.count }
+        ensures rows { group_rows result.group ≡ map not (group_rows self.group) }
+    {
+        Run {
+            group: ALL_TRUE ^ self.group,
+            count: self.count,
         }
     }
 }

@@ -60,13 +60,13 @@ impl Wah {
         let mut out = Builder::with_capacity(alloc, rows.len().div_ceil(31))?;
         let whole = rows.len() / 31;
         for i in 0..whole {
-            out.push_run(group_of(&rows[31 * i..31 * i + 31]), 1)?;
+            out.push_group(group_of(&rows[31 * i..31 * i + 31]))?;
         }
         let rest = &rows[31 * whole..];
         if rest.is_empty() {
             return Ok(out);
         }
-        out.push_run(group_of(rest), 1)?;
+        out.push_group(group_of(rest))?;
         Ok(out)
     }
 

@@ -14,7 +14,7 @@ loop-i-preserved c =
     let start = 31 * c.loop-i.i in
     let size : start + 31 - start ≡ 31 = omega arith in
     let held = whole_group c.loop-i.out rows (take (start + 31 - start) (drop start rows)) c.loop-i.i c.group_of.result c.loop-i.invariant.0 (ap (λ n. take n (drop start rows)) size) (omega arith) c.group_of.ensures.rows in
-    (ap rows_of c.in_ok-push_run.ensures.ok ∙ held, omega (arith, ap length c.in_ok-push_run.ensures.ok, length_push c.loop-i.out c.group_of.result))
+    (ap rows_of c.in_ok-push_group.ensures.ok ∙ held, omega (arith, ap length c.in_ok-push_group.ensures.ok, length_push c.loop-i.out c.group_of.result))
 
 pub returns : goal.returns
 returns c =
@@ -27,5 +27,5 @@ returns c =
     record {
       padding = 31 - length chunk;
       few = omega (arith, some_from_test (length chunk) (sym c.is_empty.ensures ∙ c.if-is_empty.false));
-      is = ap rows_of c.in_ok-push_run-2.ensures.ok ∙ last_group c.loop-i.out rows chunk (length rows / 31) c.group_of-2.result (c.loop-i.invariant.0 ∙ ap (λ i. take (31 * i) rows) whole) all c.group_of-2.ensures.rows;
+      is = ap rows_of c.in_ok-push_group-2.ensures.ok ∙ last_group c.loop-i.out rows chunk (length rows / 31) c.group_of-2.result (c.loop-i.invariant.0 ∙ ap (λ i. take (31 * i) rows) whole) all c.group_of-2.ensures.rows;
     }

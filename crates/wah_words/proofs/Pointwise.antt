@@ -1,0 +1,104 @@
+-- Operations on lists of truth values, and on the groups that hold them.
+use Rattle.std.proofs.Common.{◌≡◌, ◌≢◌, ℕ, zero, suc, ◌+◌, ◌-◌, ◌*◌, ◌/◌, ◌%◌, ◌^◌, ◌<◌, ◌≤◌, ◌∙◌, Bool, true, false, cond, not, eqb, List, [], ◌∷◌, ◌++◌, length, get_or, take, drop, replicate, map, refl, sym, ap, subst, arith, zero-add}
+use Rattle.std.specs.Prelude.{All, ◌&&◌, ◌||◌, bit_and, bit_or, bit_xor}
+use Rattle.std.specs.List.{zip}
+use Rattle.std.proofs.lemmas.Nat.{and_shr, or_shr, xor_shr, and_mod, or_mod, xor_mod}
+use Rattle.std.proofs.lemmas.List.{append_assoc, length-append}
+use Rattle.wah_words.specs.Group.{low_bits, group_rows, rows_of}
+use Rattle.wah_words.specs.Rows.{pointwise, differs}
+use Rattle.wah_words.proofs.Bits.{length-low_bits, low_bits-ones}
+use Rattle.wah_words.proofs.Spelled.{length-group_rows}
+
+-- an operation on numbers that works bit by bit
+pub record IsBitwise (word : ℕ → ℕ → ℕ) (bit : Bool → Bool → Bool) : Type 0 where
+  pub low : (a b : ℕ) → eqb (word a b % 2) 1 ≡ bit (eqb (a % 2) 1) (eqb (b % 2) 1)
+  pub high : (a b : ℕ) → word a b / 2 ≡ word (a / 2) (b / 2)
+
+low_bits-bitwise : (word : ℕ → ℕ → ℕ) (bit : Bool → Bool → Bool) → IsBitwise word bit → (count a b : ℕ) → low_bits count (word a b) ≡ pointwise bit (low_bits count a) (low_bits count b)
+unfolding low_bits
+low_bits-bitwise word bit is zero a b = refl
+low_bits-bitwise word bit is (suc count) a b =
+    rw (is.low a b, is.high a b) (ap (λ rest. bit (eqb (a % 2) 1) (eqb (b % 2) 1) ∷ rest) (low_bits-bitwise word bit is count (a / 2) (b / 2)))
+
+pub group_rows-bitwise : (word : ℕ → ℕ → ℕ) (bit : Bool → Bool → Bool) → IsBitwise word bit → (a b : ℕ) → group_rows (word a b) ≡ pointwise bit (group_rows a) (group_rows b)
+unfolding group_rows
+group_rows-bitwise word bit is a b = low_bits-bitwise word bit is 31 a b
+
+-- the tables of the three operations
+and_table : (m n : ℕ) → m < 2 → n < 2 → eqb (bit_and m n) 1 ≡ eqb m 1 && eqb n 1
+and_table zero n m_bit n_bit = refl
+and_table (suc zero) zero m_bit n_bit = refl
+and_table (suc zero) (suc zero) m_bit n_bit = refl
+and_table (suc zero) (suc (suc n)) m_bit n_bit = absurd (omega arith)
+and_table (suc (suc m)) n m_bit n_bit = absurd (omega arith)
+
+or_table : (m n : ℕ) → m < 2 → n < 2 → eqb (bit_or m n) 1 ≡ eqb m 1 || eqb n 1
+or_table zero zero m_bit n_bit = refl
+or_table zero (suc zero) m_bit n_bit = refl
+or_table zero (suc (suc n)) m_bit n_bit = absurd (omega arith)
+or_table (suc zero) zero m_bit n_bit = refl
+or_table (suc zero) (suc zero) m_bit n_bit = refl
+or_table (suc zero) (suc (suc n)) m_bit n_bit = absurd (omega arith)
+or_table (suc (suc m)) n m_bit n_bit = absurd (omega arith)
+
+xor_table : (m n : ℕ) → m < 2 → n < 2 → eqb (bit_xor m n) 1 ≡ differs (eqb m 1) (eqb n 1)
+xor_table zero zero m_bit n_bit = refl
+xor_table zero (suc zero) m_bit n_bit = refl
+xor_table zero (suc (suc n)) m_bit n_bit = absurd (omega arith)
+xor_table (suc zero) zero m_bit n_bit = refl
+xor_table (suc zero) (suc zero) m_bit n_bit = refl
+xor_table (suc zero) (suc (suc n)) m_bit n_bit = absurd (omega arith)
+xor_table (suc (suc m)) n m_bit n_bit = absurd (omega arith)
+
+pub and_is_bitwise : IsBitwise bit_and ◌&&◌
+and_is_bitwise = record {
+  low = λ a b. ap (λ bit. eqb bit 1) (and_mod a b 1) ∙ and_table (a % 2) (b % 2) (omega arith) (omega arith);
+  high = λ a b. and_shr a b 1;
+}
+
+pub or_is_bitwise : IsBitwise bit_or ◌||◌
+or_is_bitwise = record {
+  low = λ a b. ap (λ bit. eqb bit 1) (or_mod a b 1) ∙ or_table (a % 2) (b % 2) (omega arith) (omega arith);
+  high = λ a b. or_shr a b 1;
+}
+
+pub xor_is_bitwise : IsBitwise bit_xor differs
+xor_is_bitwise = record {
+  low = λ a b. ap (λ bit. eqb bit 1) (xor_mod a b 1) ∙ xor_table (a % 2) (b % 2) (omega arith) (omega arith);
+  high = λ a b. xor_shr a b 1;
+}
+
+-- lists side by side
+pub pointwise-append : (bit : Bool → Bool → Bool) (a b c d : List Bool) → length a ≡ length b → pointwise bit (a ++ c) (b ++ d) ≡ pointwise bit a b ++ pointwise bit c d
+pointwise-append bit [] [] c d same = refl
+pointwise-append bit [] (y ∷ b) c d same = absurd (omega arith)
+pointwise-append bit (x ∷ a) [] c d same = absurd (omega arith)
+pointwise-append bit (x ∷ a) (y ∷ b) c d same = ap (λ rest. bit x y ∷ rest) (pointwise-append bit a b c d (omega arith))
+
+pub take-pointwise : (bit : Bool → Bool → Bool) (n : ℕ) (a b : List Bool) → take n (pointwise bit a b) ≡ pointwise bit (take n a) (take n b)
+take-pointwise bit zero a b = refl
+take-pointwise bit (suc n) [] b = refl
+take-pointwise bit (suc n) (x ∷ a) [] = refl
+take-pointwise bit (suc n) (x ∷ a) (y ∷ b) = ap (λ rest. bit x y ∷ rest) (take-pointwise bit n a b)
+
+pub drop-pointwise : (bit : Bool → Bool → Bool) (n : ℕ) (a b : List Bool) → length a ≡ length b → drop n (pointwise bit a b) ≡ pointwise bit (drop n a) (drop n b)
+drop-pointwise bit zero a b same = refl
+drop-pointwise bit (suc n) [] [] same = refl
+drop-pointwise bit (suc n) [] (y ∷ b) same = absurd (omega arith)
+drop-pointwise bit (suc n) (x ∷ a) [] same = absurd (omega arith)
+drop-pointwise bit (suc n) (x ∷ a) (y ∷ b) same = drop-pointwise bit n a b (omega arith)
+
+group_rows-ones : group_rows 2147483647 ≡ replicate 31 true
+unfolding group_rows
+group_rows-ones = low_bits-ones 31
+
+-- a list is the complement of the list that differs from it everywhere
+pub pointwise-differs_ones : (list : List Bool) → pointwise differs (replicate (length list) true) list ≡ map not list
+pointwise-differs_ones [] = refl
+pointwise-differs_ones (row ∷ list) = ap (λ rest. not row ∷ rest) (pointwise-differs_ones list)
+
+pub group_rows-complement : (group : ℕ) → group_rows (bit_xor 2147483647 group) ≡ map not (group_rows group)
+group_rows-complement group =
+    group_rows-bitwise bit_xor differs xor_is_bitwise 2147483647 group
+    ∙ ap (λ ones. pointwise differs ones (group_rows group)) (group_rows-ones ∙ ap (λ n. replicate n true) (sym (length-group_rows group)))
+    ∙ pointwise-differs_ones (group_rows group)
