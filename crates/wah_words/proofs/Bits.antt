@@ -5,7 +5,7 @@ use lib.Lanes.{mask_l}
 use Rattle.std.proofs.lemmas.List.{append-nil, append_assoc, length-append, length-replicate, map-id, length-take-le, take_more}
 use Rattle.std.proofs.lemmas.List.Elements.{All-replicate, All-head, All-tail}
 use Rattle.std.proofs.lemmas.Simd.{ones-mask_l, mask_l-lt}
-use Rattle.std.proofs.lemmas.Nat.{one_shl, shr-shr, pow_pos, div-add-mod'}
+use Rattle.std.proofs.lemmas.Nat.{one_shl, mod-pow-add, shr-shr, pow_pos, div-add-mod'}
 use Rattle.std.proofs.Math.Nat.{pow-suc}
 use Rattle.wah_words.specs.Group.{low_bits, group_rows, rows_of, filled}
 use Rattle.wah_words.specs.Rows.{true_count}
@@ -108,3 +108,19 @@ mask-more_false bits i group within is so_far =
 
 pub mask_front-lt : (bits : List Bool) (i : ℕ) → i ≤ length bits → mask_l (take i bits) < 2 ^ i
 mask_front-lt bits i within = rw (length-take-le i bits within) at (mask_l-lt (take i bits))
+
+-- the low bits alone
+pub low_bits-mod : (count first n : ℕ) → first ≤ count → low_bits count (n % 2 ^ first) ≡ take first (low_bits count n) ++ replicate (count - first) false
+unfolding low_bits
+low_bits-mod count zero n within =
+    let none : n % 2 ^ 0 ≡ 0 = omega arith in
+    let all : count - 0 ≡ count = omega arith in
+    rw (none, all) (low_bits-zero count)
+low_bits-mod zero (suc first) n within = absurd (omega arith)
+low_bits-mod (suc count) (suc first) n within =
+    let one : first + 1 ≡ suc first = omega arith in
+    let parts : n % 2 ^ suc first ≡ (n / 2 % 2 ^ first) * 2 + n % 2 = ap (λ k. n % 2 ^ k) (sym one) ∙ mod-pow-add n first 1 in
+    let low : n % 2 ^ suc first % 2 ≡ n % 2 = omega arith in
+    let high : n % 2 ^ suc first / 2 ≡ n / 2 % 2 ^ first = omega arith in
+    let rest : suc count - suc first ≡ count - first = omega arith in
+    rw (low, high, rest) (ap (λ bits. eqb (n % 2) 1 ∷ bits) (low_bits-mod count first (n / 2) (omega arith)))

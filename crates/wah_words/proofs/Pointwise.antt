@@ -1,13 +1,15 @@
 -- Operations on lists of truth values, and on the groups that hold them.
-use Rattle.std.proofs.Common.{◌≡◌, ◌≢◌, ℕ, zero, suc, ◌+◌, ◌-◌, ◌*◌, ◌/◌, ◌%◌, ◌^◌, ◌<◌, ◌≤◌, ◌∙◌, Bool, true, false, cond, not, eqb, List, [], ◌∷◌, ◌++◌, length, get_or, take, drop, replicate, map, refl, sym, ap, subst, arith, zero-add}
+use Rattle.std.proofs.Common.{◌≡◌, ◌≢◌, ℕ, zero, suc, ◌+◌, ◌-◌, ◌*◌, ◌/◌, ◌%◌, ◌^◌, ◌<◌, ◌≤◌, ◌∙◌, Bool, true, false, cond, not, eqb, List, [], ◌∷◌, ◌++◌, length, get_or, take, drop, replicate, map, refl, sym, ap, subst, arith, zero-add, take-add}
 use Rattle.std.specs.Prelude.{All, ◌&&◌, ◌||◌, bit_and, bit_or, bit_xor}
 use Rattle.std.specs.List.{zip}
 use Rattle.std.proofs.lemmas.Nat.{and_shr, or_shr, xor_shr, and_mod, or_mod, xor_mod}
-use Rattle.std.proofs.lemmas.List.{append_assoc, length-append}
-use Rattle.wah_words.specs.Group.{low_bits, group_rows, rows_of}
-use Rattle.wah_words.specs.Rows.{pointwise, differs}
+use Rattle.std.proofs.lemmas.List.{append_assoc, length-append, length-replicate, length-take-le, map-append, length-map, replicate_more, take_at, drop_at}
+use Rattle.std.proofs.lemmas.List.Concat.{flat_map-append}
+use Rattle.std.proofs.lemmas.List.Elements.{All-replicate}
+use Rattle.wah_words.specs.Group.{low_bits, group_rows, rows_of, group_count}
+use Rattle.wah_words.specs.Rows.{pointwise, differs, cleared}
 use Rattle.wah_words.proofs.Bits.{length-low_bits, low_bits-ones}
-use Rattle.wah_words.proofs.Spelled.{length-group_rows}
+use Rattle.wah_words.proofs.Spelled.{length-group_rows, length-rows_of, rows_of-push}
 
 -- an operation on numbers that works bit by bit
 pub record IsBitwise (word : ℕ → ℕ → ℕ) (bit : Bool → Bool → Bool) : Type 0 where
@@ -102,3 +104,67 @@ group_rows-complement group =
     group_rows-bitwise bit_xor differs xor_is_bitwise 2147483647 group
     ∙ ap (λ ones. pointwise differs ones (group_rows group)) (group_rows-ones ∙ ap (λ n. replicate n true) (sym (length-group_rows group)))
     ∙ pointwise-differs_ones (group_rows group)
+
+-- a run turned
+pub rows_of-turned : (count turned group : ℕ) → group_rows turned ≡ map not (group_rows group) → rows_of (replicate count turned) ≡ map not (rows_of (replicate count group))
+rows_of-turned zero turned group is = refl
+rows_of-turned (suc count) turned group is =
+    ap (λ rows. rows ++ rows_of (replicate count turned)) is
+    ∙ ap (λ rest. map not (group_rows group) ++ rest) (rows_of-turned count turned group is)
+    ∙ sym (map-append not (group_rows group) (rows_of (replicate count group)))
+
+-- a run more
+pub turned_more : (out gs : List ℕ) (start : List Bool) (count turned group : ℕ) → rows_of out ≡ start ++ map not (rows_of gs) → group_rows turned ≡ map not (group_rows group) → rows_of (out ++ replicate count turned) ≡ start ++ map not (rows_of (gs ++ replicate count group))
+turned_more out gs start count turned group so_far is =
+    flat_map-append group_rows out (replicate count turned)
+    ∙ ap (λ front. front ++ rows_of (replicate count turned)) so_far
+    ∙ ap (λ last. start ++ map not (rows_of gs) ++ last) (rows_of-turned count turned group is)
+    ∙ append_assoc start (map not (rows_of gs)) (map not (rows_of (replicate count group)))
+    ∙ ap (λ rest. start ++ rest) (sym (map-append not (rows_of gs) (rows_of (replicate count group))))
+    ∙ ap (λ rows. start ++ map not rows) (sym (flat_map-append group_rows gs (replicate count group)))
+
+-- a list cleared from a row on
+cleared-append : (rows : ℕ) (a b : List Bool) → length a ≤ rows → cleared rows (a ++ b) ≡ a ++ cleared (rows - length a) b
+cleared-append rows a b within =
+    let parts : rows ≡ length a + (rows - length a) = omega arith in
+    let kept : take rows (a ++ b) ≡ a ++ take (rows - length a) b =
+      ap (λ n. take n (a ++ b)) parts
+      ∙ take-add (length a) (rows - length a) (a ++ b)
+      ∙ ap (λ front. front ++ take (rows - length a) (drop (length a) (a ++ b))) (take_at a b (length a) refl)
+      ∙ ap (λ rest. a ++ take (rows - length a) rest) (drop_at a b (length a) refl) in
+    let padding : length (a ++ b) - rows ≡ length b - (rows - length a) = omega (arith, length-append a b) in
+    ap (λ front. front ++ replicate (length (a ++ b) - rows) false) kept
+    ∙ append_assoc a (take (rows - length a) b) (replicate (length (a ++ b) - rows) false)
+    ∙ ap (λ n. a ++ (take (rows - length a) b ++ replicate n false)) padding
+
+pub take-cleared : (rows : ℕ) (list : List Bool) → rows ≤ length list → take rows (cleared rows list) ≡ take rows list
+take-cleared rows list within = take_at (take rows list) (replicate (length list - rows) false) rows (length-take-le rows list within)
+
+pub drop-cleared : (rows : ℕ) (list : List Bool) → rows ≤ length list → All (λ row. row ≡ false) (drop rows (cleared rows list))
+drop-cleared rows list within =
+    rw (drop_at (take rows list) (replicate (length list - rows) false) rows (length-take-le rows list within)) (All-replicate (λ row. row ≡ false) (length list - rows) false refl)
+
+pub length-cleared : (rows : ℕ) (list : List Bool) → rows ≤ length list → length (cleared rows list) ≡ length list
+length-cleared rows list within =
+    omega (arith, length-append (take rows list) (replicate (length list - rows) false), length-take-le rows list within, length-replicate (length list - rows) false)
+
+-- the last group of a run cleared from a row on
+pub rows_of-last_cleared : (out : List ℕ) (count g last rows : ℕ) → 1 ≤ count → 0 < rows → length out + count ≡ group_count rows → group_rows last ≡ cleared ((rows - 1) % 31 + 1) (group_rows g) → rows_of (out ++ replicate (count - 1) g ++ last ∷ []) ≡ cleared rows (rows_of out ++ rows_of (replicate count g))
+rows_of-last_cleared out count g last rows some there size is =
+    let front = out ++ replicate (count - 1) g in
+    let long : length front + 1 ≡ group_count rows = omega (arith, length-append out (replicate (count - 1) g), length-replicate (count - 1) g) in
+    let before : (rows - 1) % 31 + 1 ≡ rows - length (rows_of front) = omega (arith, length-rows_of front) in
+    let within : length (rows_of front) ≤ rows = omega (arith, length-rows_of front) in
+    let one_more : count - 1 + 1 ≡ count = omega arith in
+    let whole : rows_of front ++ group_rows g ≡ rows_of out ++ rows_of (replicate count g) =
+      sym (rows_of-push front g)
+      ∙ ap rows_of (append_assoc out (replicate (count - 1) g) (g ∷ []) ∙ ap (λ run. out ++ run) (replicate_more (count - 1) g ∙ ap (λ n. replicate n g) one_more))
+      ∙ flat_map-append group_rows out (replicate count g) in
+    rows_of-push front last
+    ∙ ap (λ end. rows_of front ++ end) (is ∙ ap (λ n. cleared n (group_rows g)) before)
+    ∙ sym (cleared-append rows (rows_of front) (group_rows g) within)
+    ∙ ap (cleared rows) whole
+
+-- groups that are others turned are as many
+pub length-turned : (out gs : List ℕ) → rows_of out ≡ map not (rows_of gs) → length out ≡ length gs
+length-turned out gs is = omega (arith, length-rows_of out, length-rows_of gs, ap length is, length-map (rows_of gs) not)

@@ -10,7 +10,7 @@ use Rattle.wah_words.specs.Group.{low_bits, group_rows, rows_of, group_count}
 use Rattle.wah_words.specs.Word.{word_groups, groups, run_group, run_count}
 use Rattle.wah_words.specs.Canonical.{IsCanonical, AreRuns, AreApart, IsMixedLiteral, IsCountedFill}
 use Rattle.wah_words.proofs.Bits.{drop-low_bits, low_bits-zero, zero_from_false}
-use Rattle.wah_words.proofs.Words.{groups-push, AreRuns-push, IsProper, run_count-literal, run_group-lt}
+use Rattle.wah_words.proofs.Words.{groups-take-more, length-groups-take-more, length-groups-take-le, some_run, AreRuns-push, IsProper, run_group-lt}
 use Rattle.wah_words.proofs.Spelled.{length-rows_of, rows_of-push}
 
 -- the words before i are runs, previous is the last of them, and left groups are still wanted
@@ -20,21 +20,7 @@ pub record IsReadTo (words : List ℕ) (rows i previous left : ℕ) : Type 0 whe
   pub last : 0 < i → previous ≡ get_or words (i - 1) 0
   pub size : left + length (groups (take i words)) ≡ group_count rows
 
--- what is read when the next word is
-length-groups-more : (words : List ℕ) (i : ℕ) → i < length words → length (groups (take (i + 1) words)) ≡ length (groups (take i words)) + run_count (get_or words i 0)
-length-groups-more words i within =
-    let w = get_or words i 0 in
-    ap (λ ws. length (groups ws)) (take_more words i 0 within)
-    ∙ ap length (groups-push (take i words) w)
-    ∙ length-append (groups (take i words)) (replicate (run_count w) (run_group w))
-    ∙ ap (λ n. length (groups (take i words)) + n) (length-replicate (run_count w) (run_group w))
-
-length-groups-take-le : (words : List ℕ) (i : ℕ) → length (groups (take i words)) ≤ length (groups words)
-length-groups-take-le words i =
-    let parted : groups words ≡ groups (take i words) ++ groups (drop i words) =
-      ap groups (sym (take-append-drop i words)) ∙ flat_map-append word_groups (take i words) (drop i words) in
-    omega (arith, ap length parted, length-append (groups (take i words)) (groups (drop i words)))
-
+-- the next word read
 pub read_more : (words : List ℕ) (rows i previous left left' : ℕ) → IsReadTo words rows i previous left → i < length words → IsMixedLiteral (get_or words i 0) → IsCountedFill (get_or words i 0) → AreApart previous (get_or words i 0) → left' + run_count (get_or words i 0) ≡ left → IsReadTo words rows (i + 1) (get_or words i 0) left'
 read_more words rows i previous left left' read within literal fill apart less =
     let long : length (take i words) ≡ i = length-take-le i words (omega arith) in
@@ -44,7 +30,7 @@ read_more words rows i previous left left' read within literal fill apart less =
       runs = subst AreRuns (sym (take_more words i 0 within)) (AreRuns-push (take i words) (get_or words i 0) read.runs (record { literal = literal; fill = fill }) after);
       first = λ none. absurd (omega arith);
       last = λ _. let same : i + 1 - 1 ≡ i = omega arith in rw same refl;
-      size = omega (arith, length-groups-more words i within, read.size);
+      size = omega (arith, length-groups-take-more words i within, read.size);
     }
 
 -- the reasons to refuse the words
@@ -61,7 +47,7 @@ refused_neighbour words rows i previous left read within above here same canonic
 
 pub refused_long : (words : List ℕ) (rows i previous left : ℕ) → IsReadTo words rows i previous left → i < length words → left < run_count (get_or words i 0) → IsCanonical words rows → ⊥
 refused_long words rows i previous left read within long canonical =
-    omega (arith, length-groups-more words i within, length-groups-take-le words (i + 1), read.size, canonical.size)
+    omega (arith, length-groups-take-more words i within, length-groups-take-le words (i + 1), read.size, canonical.size)
 
 pub refused_short : (words : List ℕ) (rows i previous left : ℕ) → IsReadTo words rows i previous left → length words ≤ i → 0 < left → IsCanonical words rows → ⊥
 refused_short words rows i previous left read end some canonical =
@@ -94,18 +80,14 @@ drop-last_group front g rows size some =
     ∙ ap (λ rest. drop (rows % 31) rest) (drop_at (rows_of front) (group_rows g) (31 * length front) (length-rows_of front))
     ∙ drop-group_rows g (rows % 31) (omega arith)
 
--- a word that may stand among runs has a group
-some_run : (w : ℕ) → IsCountedFill w → 1 ≤ run_count w
-some_run w counted = elim (cases_lt w (2 ^ 31)) [ inl low ↦ omega (arith, run_count-literal w low) | inr high ↦ counted high ]
-
 -- the groups of words end in the group of the last word
 ends_in : (words : List ℕ) (i : ℕ) → i + 1 ≡ length words → IsCountedFill (get_or words i 0) → (front : List ℕ) × (groups words ≡ front ++ run_group (get_or words i 0) ∷ [])
 ends_in words i last counted =
     let w = get_or words i 0 in
     let one_less : run_count w ≡ run_count w - 1 + 1 = omega (arith, some_run w counted) in
     (groups (take i words) ++ replicate (run_count w - 1) (run_group w),
-      ap groups (sym (take_all (i + 1) words (omega arith)) ∙ take_more words i 0 (omega arith))
-      ∙ groups-push (take i words) w
+      ap groups (sym (take_all (i + 1) words (omega arith)))
+      ∙ groups-take-more words i (omega arith)
       ∙ ap (λ run. groups (take i words) ++ run) (ap (λ n. replicate n (run_group w)) one_less ∙ sym (replicate_more (run_count w - 1) (run_group w)))
       ∙ sym (append_assoc (groups (take i words)) (replicate (run_count w - 1) (run_group w)) (run_group w ∷ [])))
 

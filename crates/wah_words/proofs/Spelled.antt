@@ -6,11 +6,11 @@ use Rattle.std.proofs.lemmas.List.Concat.{flat_map-append}
 use Rattle.std.proofs.lemmas.List.Elements.{All-head, All-tail, All-replicate}
 use Rattle.std.proofs.lemmas.List.Sums.{sum_by-append, sum_by-cons, sum_by-take-drop, sum_by-take-le, count_by-le-length}
 use Rattle.wah_words.specs.Group.{low_bits, group_rows, rows_of, group_count, Holds}
-use Rattle.wah_words.specs.Rows.{true_count}
-use Rattle.wah_words.specs.Word.{word_groups, groups, run_group, run_count}
+use Rattle.wah_words.specs.Rows.{true_count, cleared}
+use Rattle.wah_words.specs.Word.{groups, run_group, run_count}
 use Rattle.wah_words.specs.Canonical.{IsCanonical, Spells, spelled_rows}
-use Rattle.wah_words.proofs.Bits.{length-low_bits, true_count-low_bits}
-use Rattle.wah_words.proofs.Words.{groups-push, run_group-lt}
+use Rattle.wah_words.proofs.Bits.{length-low_bits, low_bits-mod, true_count-low_bits}
+use Rattle.wah_words.proofs.Words.{groups-take-more, groups-split, run_group-lt}
 
 pub length-group_rows : (group : ℕ) → length (group_rows group) ≡ 31
 unfolding group_rows
@@ -42,21 +42,20 @@ true_count-run (suc count) group below =
     omega (arith, true_count-append (group_rows group) (rows_of (replicate count group)), true_count-group_rows group below, true_count-run count group below)
 
 -- one word more
-true_count-more : (words : List ℕ) (i d : ℕ) → i < length words → true_count (rows_of (groups (take (i + 1) words))) ≡ true_count (rows_of (groups (take i words))) + count_ones (run_group (get_or words i d)) * run_count (get_or words i d)
-true_count-more words i d within =
-    let w = get_or words i d in
-    ap (λ ws. true_count (rows_of (groups ws))) (take_more words i d within)
-    ∙ ap (λ gs. true_count (rows_of gs)) (groups-push (take i words) w)
-    ∙ ap true_count (flat_map-append group_rows (groups (take i words)) (replicate (run_count w) (run_group w)))
-    ∙ true_count-append (rows_of (groups (take i words))) (rows_of (replicate (run_count w) (run_group w)))
+true_count-more : (words : List ℕ) (i : ℕ) → i < length words → true_count (rows_of (groups (take (i + 1) words))) ≡ true_count (rows_of (groups (take i words))) + count_ones (run_group (get_or words i 0)) * run_count (get_or words i 0)
+true_count-more words i within =
+    let w = get_or words i 0 in
+    let run = replicate (run_count w) (run_group w) in
+    ap (λ gs. true_count (rows_of gs)) (groups-take-more words i within)
+    ∙ ap true_count (flat_map-append group_rows (groups (take i words)) run)
+    ∙ true_count-append (rows_of (groups (take i words))) (rows_of run)
     ∙ ap (λ n. true_count (rows_of (groups (take i words))) + n) (true_count-run (run_count w) (run_group w) (run_group-lt w))
 
 -- a front of words has no more true rows than all of them
 true_count-take-le : (words : List ℕ) (i : ℕ) → true_count (rows_of (groups (take i words))) ≤ true_count (rows_of (groups words))
 true_count-take-le words i =
     let parted : rows_of (groups words) ≡ rows_of (groups (take i words)) ++ rows_of (groups (drop i words)) =
-      ap (λ ws. rows_of (groups ws)) (sym (take-append-drop i words))
-      ∙ ap rows_of (flat_map-append word_groups (take i words) (drop i words))
+      ap rows_of (groups-split words i)
       ∙ flat_map-append group_rows (groups (take i words)) (groups (drop i words)) in
     omega (arith, ap true_count parted, true_count-append (rows_of (groups (take i words))) (rows_of (groups (drop i words))))
 
@@ -69,7 +68,7 @@ pub record IsCounted (words : List ℕ) (i total group count : ℕ) : Type 0 whe
 
 pub counted : (words : List ℕ) (i total group count : ℕ) → IsCounted words i total group count → total + count_ones group * count ≡ true_count (rows_of (groups (take (i + 1) words)))
 counted words i total group count is =
-    rw (is.so_far, is.group_is, is.count_is) (sym (true_count-more words i 0 is.within))
+    rw (is.so_far, is.group_is, is.count_is) (sym (true_count-more words i is.within))
 
 true_count-false : (list : List Bool) → All (λ row. row ≡ false) list → true_count list ≡ 0
 true_count-false [] each = refl
@@ -129,3 +128,8 @@ padding_held gs rows holds =
 
 pub rows_held : (gs : List ℕ) (rows : List Bool) → Holds gs rows → take (length rows) (rows_of gs) ≡ rows
 rows_held gs rows holds = rw (holds.is, take_at rows (replicate holds.padding false) (length rows) refl) refl
+
+-- the low bits of a group alone
+pub group_rows-mod : (group n : ℕ) → n ≤ 31 → group_rows (group % 2 ^ n) ≡ cleared n (group_rows group)
+unfolding group_rows
+group_rows-mod group n within = low_bits-mod 31 n group within ∙ ap (λ long. take n (low_bits 31 group) ++ replicate (long - n) false) (sym (length-low_bits 31 group))

@@ -1,7 +1,7 @@
 -- Words one after another, and the groups that they stand for.
 use Rattle.std.proofs.Common.{◌≡◌, ◌≢◌, ℕ, suc, ◌+◌, ◌-◌, ◌*◌, ◌/◌, ◌%◌, ◌^◌, ◌<◌, ◌≤◌, ◌⊎◌, ◌∙◌, Bool, true, false, cond, ltb, eqb, List, [], ◌∷◌, ◌++◌, length, get_or, set, take, drop, replicate, refl, sym, ap, subst, arith, rules, inl, inr}
 use Rattle.std.specs.Prelude.{All, nat_lt}
-use Rattle.std.proofs.lemmas.List.{append-nil, append_assoc, length-append, length-replicate, replicate-append-replicate, length_push, get_or-append-add, get_or_append_left, get_or_push, set-get_or, get_or_default, set_split, take_at, take_more, take_all, drop_all}
+use Rattle.std.proofs.lemmas.List.{append-nil, append_assoc, length-append, length-replicate, replicate-append-replicate, length_push, get_or-append-add, get_or_append_left, get_or_push, set-get_or, get_or_default, set_split, take-append-drop, take_at, take_more, take_all, drop_all}
 use Rattle.std.proofs.lemmas.List.Concat.{flat_map-append}
 use Rattle.std.proofs.lemmas.List.Elements.{All-push, All-take}
 use Rattle.std.proofs.lemmas.Bool.{cases_lt, lt-ltb, le-ltb}
@@ -46,6 +46,34 @@ run_group-lt w =
 pub groups-push : (ws : List ℕ) (w : ℕ) → groups (ws ++ w ∷ []) ≡ groups ws ++ replicate (run_count w) (run_group w)
 unfolding word_groups
 groups-push ws w = flat_map-append word_groups ws (w ∷ []) ∙ ap (λ x. groups ws ++ x) (append-nil (word_groups w))
+
+-- one word more of a front
+pub groups-take-more : (ws : List ℕ) (i : ℕ) → i < length ws → groups (take (i + 1) ws) ≡ groups (take i ws) ++ replicate (run_count (get_or ws i 0)) (run_group (get_or ws i 0))
+groups-take-more ws i within = ap groups (take_more ws i 0 within) ∙ groups-push (take i ws) (get_or ws i 0)
+
+pub length-groups-push : (ws : List ℕ) (w : ℕ) → length (groups (ws ++ w ∷ [])) ≡ length (groups ws) + run_count w
+length-groups-push ws w =
+    ap length (groups-push ws w)
+    ∙ length-append (groups ws) (replicate (run_count w) (run_group w))
+    ∙ ap (λ n. length (groups ws) + n) (length-replicate (run_count w) (run_group w))
+
+pub length-groups-take-more : (ws : List ℕ) (i : ℕ) → i < length ws → length (groups (take (i + 1) ws)) ≡ length (groups (take i ws)) + run_count (get_or ws i 0)
+length-groups-take-more ws i within = ap (λ front. length (groups front)) (take_more ws i 0 within) ∙ length-groups-push (take i ws) (get_or ws i 0)
+
+-- a front of words, and the rest
+pub groups-split : (ws : List ℕ) (i : ℕ) → groups ws ≡ groups (take i ws) ++ groups (drop i ws)
+groups-split ws i = ap groups (sym (take-append-drop i ws)) ∙ flat_map-append word_groups (take i ws) (drop i ws)
+
+pub length-groups-take-le : (ws : List ℕ) (i : ℕ) → length (groups (take i ws)) ≤ length (groups ws)
+length-groups-take-le ws i = omega (arith, ap length (groups-split ws i), length-append (groups (take i ws)) (groups (drop i ws)))
+
+-- what holds of each word holds of each word of a front
+pub All-front : (P : ℕ → Type 0) (ws : List ℕ) (w : ℕ) → All P (ws ++ w ∷ []) → All P ws
+All-front P ws w each = subst (All P) (take_at ws (w ∷ []) (length ws) refl) (All-take P (length ws) (ws ++ w ∷ []) each)
+
+-- a word that may stand among runs has a group
+pub some_run : (w : ℕ) → IsCountedFill w → 1 ≤ run_count w
+some_run w counted = elim (cases_lt w (2 ^ 31)) [ inl low ↦ omega (arith, run_count-literal w low) | inr high ↦ counted high ]
 
 pub groups-push_literal : (ws : List ℕ) (w : ℕ) → w < 2 ^ 31 → groups (ws ++ w ∷ []) ≡ groups ws ++ w ∷ []
 groups-push_literal ws w below =
@@ -109,10 +137,9 @@ AreRuns-push ws w runs proper apart = record {
 
 pub AreRuns-front : (ws : List ℕ) (w : ℕ) → AreRuns (ws ++ w ∷ []) → AreRuns ws
 AreRuns-front ws w runs =
-    let front : take (length ws) (ws ++ w ∷ []) ≡ ws = take_at ws (w ∷ []) (length ws) refl in
     record {
-      literals = rw front at (All-take IsMixedLiteral (length ws) (ws ++ w ∷ []) runs.literals);
-      fills = rw front at (All-take IsCountedFill (length ws) (ws ++ w ∷ []) runs.fills);
+      literals = All-front IsMixedLiteral ws w runs.literals;
+      fills = All-front IsCountedFill ws w runs.fills;
       neighbours = λ k within.
         rw (get_or_append_left ws (w ∷ []) 0 k (omega arith), get_or_append_left ws (w ∷ []) 0 (k + 1) within)
         at (runs.neighbours k (omega (arith, length_push ws w)));
@@ -121,13 +148,7 @@ AreRuns-front ws w runs =
 -- the last word counts no more groups than all words have
 pub run_count-last : (ws : List ℕ) (n last d : ℕ) → length ws ≡ n → 0 < n → last ≡ get_or ws (n - 1) d → run_count last ≤ length (groups ws)
 run_count-last ws n last d long some is =
-    let front = take (n - 1) ws in
-    let whole : length (groups ws) ≡ length (groups front) + run_count last =
-        ap (λ all. length (groups all)) (last_apart ws n last d long some is)
-        ∙ ap length (groups-push front last)
-        ∙ length-append (groups front) (replicate (run_count last) (run_group last))
-        ∙ ap (λ count. length (groups front) + count) (length-replicate (run_count last) (run_group last)) in
-    omega arith
+    omega (arith, ap (λ all. length (groups all)) (last_apart ws n last d long some is), length-groups-push (take (n - 1) ws) last)
 
 -- two fills with one head have one value
 run_group-same_head : (v w : ℕ) → v / 2 ^ 30 ≡ w / 2 ^ 30 → 2 ^ 31 ≤ w → run_group v ≡ run_group w
@@ -149,7 +170,7 @@ same_head v w v_above v_below w_above w_below same =
     same_from_heads v w (heads v v_above v_below) (heads w w_above w_below) same
 
 -- the last word of runs, and the word before it
-counted_last : (front : List ℕ) (last : ℕ) → AreRuns (front ++ last ∷ []) → IsCountedFill last
+pub counted_last : (front : List ℕ) (last : ℕ) → AreRuns (front ++ last ∷ []) → IsCountedFill last
 counted_last front last runs =
     rw (get_or_push front last 0 (length front) refl) at (runs.fills (length front) 0 (omega (arith, length_push front last)))
 

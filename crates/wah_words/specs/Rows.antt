@@ -1,5 +1,5 @@
 -- Operations on lists of truth values.
-use Rattle.std.specs.Prelude.{ℕ, Bool, not, List, map, count_by, if◌then◌else◌}
+use Rattle.std.specs.Prelude.{ℕ, ◌-◌, Bool, false, not, List, ◌++◌, length, take, replicate, map, count_by, if◌then◌else◌}
 use Rattle.std.specs.List.{zip}
 
 -- one of the two is true, and not the other
@@ -13,3 +13,7 @@ pointwise operation a b = map (λ rows. operation rows.0 rows.1) (zip a b)
 -- how many rows are true
 abbrev pub true_count : List Bool → ℕ
 true_count list = count_by (λ row. row) list
+
+-- the list with false from that row on
+abbrev pub cleared : ℕ → List Bool → List Bool
+cleared rows list = take rows list ++ replicate (length list - rows) false

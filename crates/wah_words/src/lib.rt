@@ -2,6 +2,7 @@
 #![tactic(auto)]
 
 mod builder;
+mod complement;
 mod operation;
 mod run;
 mod wah;

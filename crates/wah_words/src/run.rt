@@ -1,6 +1,7 @@
 //! Words, read as runs of groups.
 ghost use Rattle.std.specs.Prelude.{◌≡◌, ◌<◌, ◌≤◌, ◌-◌, ◌^◌, ◌++◌, ◌↔◌, IsTrue, false, not, length, map, replicate};
 ghost use Rattle.wah_words.specs.Group.{IsUniform, filled, group_count as groups_for, group_rows};
+ghost use Rattle.wah_words.specs.Rows.{cleared};
 ghost use Rattle.wah_words.specs.Word.{run_group, run_count};
 ghost use Rattle.wah_words.specs.Canonical.{IsCanonical, IsCountedFill, IsMixedLiteral};
 
@@ -125,4 +126,13 @@ pub fn is_canonical(words: &[u32], rows: u32) -> bool
     }
     let last_rows = rows % 31;
     last_rows == 0 || Run::of_word(previous).group >> last_rows == 0
+}
+
+/// The first rows of a group, and false after them.
+pub fn first_rows(group: u32, rows: u32) -> u32
+    requires { rows ≤ 31 }
+    ensures within { result < 2 ^ 31 }
+    ensures rows { group_rows result ≡ cleared rows (group_rows group) }
+{
+    group & ((1u32 << rows) - 1)
 }
