@@ -3,7 +3,7 @@ use Rattle.std.proofs.Common.{◌≡◌, ◌≢◌, ℕ, zero, suc, ◌+◌, ◌
 use Rattle.std.specs.Prelude.{All, ◌&&◌, ◌||◌, bit_and, bit_or, bit_xor}
 use Rattle.std.specs.List.{zip}
 use Rattle.std.proofs.lemmas.Nat.{and_shr, or_shr, xor_shr, and_mod, or_mod, xor_mod}
-use Rattle.std.proofs.lemmas.List.{append_assoc, length-append, length-replicate, length-take-le, map-append, length-map, replicate_more, take_at, drop_at}
+use Rattle.std.proofs.lemmas.List.{append_assoc, length-append, length-replicate, length-take-le, map-append, length-map, replicate_more, replicate-append-replicate, take_at, drop_at}
 use Rattle.std.proofs.lemmas.List.Concat.{flat_map-append}
 use Rattle.std.proofs.lemmas.List.Elements.{All-replicate}
 use Rattle.wah_words.specs.Group.{low_bits, group_rows, rows_of, group_count}
@@ -168,3 +168,47 @@ rows_of-last_cleared out count g last rows some there size is =
 -- groups that are others turned are as many
 pub length-turned : (out gs : List ℕ) → rows_of out ≡ map not (rows_of gs) → length out ≡ length gs
 length-turned out gs is = omega (arith, length-rows_of out, length-rows_of gs, ap length is, length-map (rows_of gs) not)
+
+-- a run on each side
+pub rows_of-combined : (bit : Bool → Bool → Bool) (count a b r : ℕ) → group_rows r ≡ pointwise bit (group_rows a) (group_rows b) → rows_of (replicate count r) ≡ pointwise bit (rows_of (replicate count a)) (rows_of (replicate count b))
+rows_of-combined bit zero a b r is = refl
+rows_of-combined bit (suc count) a b r is =
+    ap (λ rows. rows ++ rows_of (replicate count r)) is
+    ∙ ap (λ rest. pointwise bit (group_rows a) (group_rows b) ++ rest) (rows_of-combined bit count a b r is)
+    ∙ sym (pointwise-append bit (group_rows a) (group_rows b) (rows_of (replicate count a)) (rows_of (replicate count b)) (length-group_rows a ∙ sym (length-group_rows b)))
+
+-- a front of a run apart
+pub front_run : (gs rest : List ℕ) (group whole count : ℕ) → count ≤ whole → gs ≡ replicate whole group ++ rest → gs ≡ replicate count group ++ drop count gs
+front_run gs rest group whole count within is =
+    let parts : count + (whole - count) ≡ whole = omega arith in
+    let split : gs ≡ replicate count group ++ (replicate (whole - count) group ++ rest) =
+      is
+      ∙ ap (λ n. replicate n group ++ rest) (sym parts)
+      ∙ ap (λ run. run ++ rest) (sym (replicate-append-replicate count (whole - count) group))
+      ∙ append_assoc (replicate count group) (replicate (whole - count) group) rest in
+    split ∙ ap (λ after. replicate count group ++ after) (sym (ap (drop count) split ∙ drop_at (replicate count group) (replicate (whole - count) group ++ rest) count (length-replicate count group)))
+
+-- two lists that begin with runs, and what the operation makes of the runs
+pub record IsStep (bit : Bool → Bool → Bool) (a b : List ℕ) (count r : ℕ) : Type 0 where
+  pub left_group : ℕ
+  pub right_group : ℕ
+  pub left : a ≡ replicate count left_group ++ drop count a
+  pub right : b ≡ replicate count right_group ++ drop count b
+  pub rows : group_rows r ≡ pointwise bit (group_rows left_group) (group_rows right_group)
+
+pub pointwise-step : (bit : Bool → Bool → Bool) (out a b : List ℕ) (count r : ℕ) → IsStep bit a b count r → rows_of (out ++ replicate count r) ++ pointwise bit (rows_of (drop count a)) (rows_of (drop count b)) ≡ rows_of out ++ pointwise bit (rows_of a) (rows_of b)
+pointwise-step bit out a b count r is =
+    let left = rows_of (replicate count is.left_group) in
+    let right = rows_of (replicate count is.right_group) in
+    let long : length left ≡ length right =
+      omega (arith, length-rows_of (replicate count is.left_group), length-rows_of (replicate count is.right_group), length-replicate count is.left_group, length-replicate count is.right_group) in
+    let both : pointwise bit (rows_of a) (rows_of b) ≡ pointwise bit left right ++ pointwise bit (rows_of (drop count a)) (rows_of (drop count b)) =
+      ap (λ gs. pointwise bit (rows_of gs) (rows_of b)) is.left
+      ∙ ap (λ gs. pointwise bit (rows_of (replicate count is.left_group ++ drop count a)) (rows_of gs)) is.right
+      ∙ ap (λ rows. pointwise bit rows (rows_of (replicate count is.right_group ++ drop count b))) (flat_map-append group_rows (replicate count is.left_group) (drop count a))
+      ∙ ap (λ rows. pointwise bit (left ++ rows_of (drop count a)) rows) (flat_map-append group_rows (replicate count is.right_group) (drop count b))
+      ∙ pointwise-append bit left right (rows_of (drop count a)) (rows_of (drop count b)) long in
+    let rest = pointwise bit (rows_of (drop count a)) (rows_of (drop count b)) in
+    ap (λ rows. rows ++ rest) (flat_map-append group_rows out (replicate count r) ∙ ap (λ last. rows_of out ++ last) (rows_of-combined bit count is.left_group is.right_group r is.rows))
+    ∙ append_assoc (rows_of out) (pointwise bit left right) rest
+    ∙ ap (λ rows. rows_of out ++ rows) (sym both)

@@ -43,6 +43,11 @@ run_group-lt w =
     ]
 
 -- one more word at the end
+-- the first word apart
+pub groups-cons : (w : ℕ) (ws : List ℕ) → groups (w ∷ ws) ≡ replicate (run_count w) (run_group w) ++ groups ws
+unfolding word_groups
+groups-cons w ws = refl
+
 pub groups-push : (ws : List ℕ) (w : ℕ) → groups (ws ++ w ∷ []) ≡ groups ws ++ replicate (run_count w) (run_group w)
 unfolding word_groups
 groups-push ws w = flat_map-append word_groups ws (w ∷ []) ∙ ap (λ x. groups ws ++ x) (append-nil (word_groups w))

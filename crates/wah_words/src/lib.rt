@@ -6,6 +6,7 @@ mod complement;
 mod operation;
 mod run;
 mod wah;
+mod walk;
 
 pub use std::alloc::AllocError as Memory;
 pub use wah::Wah;

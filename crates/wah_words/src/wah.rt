@@ -1,12 +1,15 @@
 //! Bitvectors.
-ghost use Rattle.std.specs.Prelude.{◌≡◌, ◌<◌, ◌≤◌, ◌^◌, [], ◌∷◌, ◌++◌, false, length, take, drop, All, ◌↔◌, IfOk, IfSome, IsSome};
+ghost use Rattle.std.specs.Prelude.{◌≡◌, ◌<◌, ◌≤◌, ◌^◌, [], ◌∷◌, ◌++◌, ◌&&◌, ◌||◌, false, not, length, map, take, drop, All, ◌↔◌, IfOk, IfSome, IsSome};
 ghost use Rattle.wah_words.specs.Group.{Holds, group_count as groups_for, rows_of};
 ghost use Rattle.wah_words.specs.Canonical.{IsCanonical, Spells};
-ghost use Rattle.wah_words.specs.Rows.{true_count};
+ghost use Rattle.wah_words.specs.Rows.{differs, pointwise, true_count};
 
 use crate::Memory;
 use crate::builder::Builder;
-use crate::run::{Run, group_of, is_canonical};
+use crate::complement::complement;
+use crate::operation::{And, Operation, Or, Xor};
+use crate::run::{Run, group_count, group_of, is_canonical};
+use crate::walk;
 use std::alloc::Global;
 use std::marker::Model;
 
@@ -68,6 +71,48 @@ impl Wah {
         }
         out.push_group(group_of(rest))?;
         Ok(out)
+    }
+
+    /// True where both lists are true.
+    pub fn and(&self, alloc: Global, other: &Wah) -> Result<Wah, Memory>
+        requires { length self.now ≡ length other.now }
+        ensures { IfOk result (λ wah. wah ≡ pointwise ◌&&◌ self.now other.now) }
+    {
+        self.combined::<And>(alloc, other)
+    }
+
+    /// True where one list is true, or both.
+    pub fn or(&self, alloc: Global, other: &Wah) -> Result<Wah, Memory>
+        requires { length self.now ≡ length other.now }
+        ensures { IfOk result (λ wah. wah ≡ pointwise ◌||◌ self.now other.now) }
+    {
+        self.combined::<Or>(alloc, other)
+    }
+
+    /// True where one list is true and the other is not.
+    pub fn xor(&self, alloc: Global, other: &Wah) -> Result<Wah, Memory>
+        requires { length self.now ≡ length other.now }
+        ensures { IfOk result (λ wah. wah ≡ pointwise differs self.now other.now) }
+    {
+        self.combined::<Xor>(alloc, other)
+    }
+
+    /// What the operation makes of each two rows at one place.
+    fn combined<O: Operation>(&self, alloc: Global, other: &Wah) -> Result<Wah, Memory>
+        requires lengths { length self.now ≡ length other.now }
+        requires padding { O.of_rows false false ≡ false }
+        ensures { IfOk result (λ wah. wah ≡ pointwise O.of_rows self.now other.now) }
+    {
+        let groups = walk::combined::<O>(alloc, &self.words, &other.words, group_count(self.rows))?;
+        Ok(Wah::of_groups(groups, self.rows))
+    }
+
+    /// True where the list is false, and false where it is true.
+    pub fn not(&self, alloc: Global) -> Result<Wah, Memory>
+        ensures { IfOk result (λ wah. wah ≡ map not self.now) }
+    {
+        let groups = complement(alloc, &self.words, self.rows)?;
+        Ok(Wah::of_groups(groups, self.rows))
     }
 
     /// The first rows of groups that have no true row after them.
