@@ -1,5 +1,6 @@
 pub mod Bits
 pub mod Pointwise
 pub mod Reading
+pub mod Results
 pub mod Spelled
 pub mod Words

@@ -5,7 +5,7 @@ use Rattle.std.specs.List.{zip}
 use Rattle.std.proofs.lemmas.Nat.{and_shr, or_shr, xor_shr, and_mod, or_mod, xor_mod}
 use Rattle.std.proofs.lemmas.List.{append_assoc, length-append, length-replicate, length-take-le, map-append, length-map, replicate_more, replicate-append-replicate, take_at, drop_at}
 use Rattle.std.proofs.lemmas.List.Concat.{flat_map-append}
-use Rattle.std.proofs.lemmas.List.Elements.{All-replicate}
+use Rattle.std.proofs.lemmas.List.Elements.{All-replicate, All-nil, All-cons, All-head, All-tail}
 use Rattle.wah_words.specs.Group.{low_bits, group_rows, rows_of, group_count}
 use Rattle.wah_words.specs.Rows.{pointwise, differs, cleared}
 use Rattle.wah_words.proofs.Bits.{length-low_bits, low_bits-ones}
@@ -212,3 +212,17 @@ pointwise-step bit out a b count r is =
     ap (λ rows. rows ++ rest) (flat_map-append group_rows out (replicate count r) ∙ ap (λ last. rows_of out ++ last) (rows_of-combined bit count is.left_group is.right_group r is.rows))
     ∙ append_assoc (rows_of out) (pointwise bit left right) rest
     ∙ ap (λ rows. rows_of out ++ rows) (sym both)
+
+pub length-pointwise : (bit : Bool → Bool → Bool) (a b : List Bool) → length a ≡ length b → length (pointwise bit a b) ≡ length a
+length-pointwise bit [] b same = refl
+length-pointwise bit (x ∷ a) [] same = absurd (omega arith)
+length-pointwise bit (x ∷ a) (y ∷ b) same = ap suc (length-pointwise bit a b (omega arith))
+
+-- false beside false makes false
+pub All-pointwise : (bit : Bool → Bool → Bool) (a b : List Bool) → bit false false ≡ false → All (λ row. row ≡ false) a → All (λ row. row ≡ false) b → All (λ row. row ≡ false) (pointwise bit a b)
+All-pointwise bit [] b is each_a each_b = All-nil (λ row. row ≡ false)
+All-pointwise bit (x ∷ a) [] is each_a each_b = All-nil (λ row. row ≡ false)
+All-pointwise bit (x ∷ a) (y ∷ b) is each_a each_b =
+    let here : bit x y ≡ false = rw (All-head (λ row. row ≡ false) x a each_a, All-head (λ row. row ≡ false) y b each_b) is in
+    All-cons (λ row. row ≡ false) (bit x y) (pointwise bit a b) here
+    (All-pointwise bit a b is (All-tail (λ row. row ≡ false) x a each_a) (All-tail (λ row. row ≡ false) y b each_b))
