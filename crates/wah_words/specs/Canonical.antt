@@ -3,6 +3,10 @@ use Rattle.std.specs.Prelude.{ℕ, ◌+◌, ◌-◌, ◌^◌, ◌<◌, ◌≤◌
 use Rattle.wah_words.specs.Group.{rows_of, group_count}
 use Rattle.wah_words.specs.Word.{groups, run_group, run_count}
 
+-- each number is a word of 32 bits
+abbrev pub AreWords : List ℕ → Type 0
+AreWords words = All (λ w. w < 2 ^ 32) words
+
 -- two words side by side are no fills of one value
 abbrev pub AreApart : ℕ → ℕ → Type 0
 AreApart v w = 2 ^ 31 ≤ v → 2 ^ 31 ≤ w → run_group v ≢ run_group w

@@ -1,7 +1,7 @@
 //! Bitvectors.
-ghost use Rattle.std.specs.Prelude.{◌≡◌, ◌<◌, ◌≤◌, ◌^◌, [], ◌∷◌, ◌++◌, ◌&&◌, ◌||◌, false, not, length, map, take, drop, All, ◌↔◌, IfOk, IfSome, IsSome};
+ghost use Rattle.std.specs.Prelude.{ℕ, Bool, List, ◌≡◌, ◌<◌, ◌≤◌, ◌^◌, [], ◌∷◌, ◌++◌, ◌&&◌, ◌||◌, false, not, length, map, take, drop, All, ◌↔◌, IfOk, IfSome, IsSome};
 ghost use Rattle.wah_words.specs.Group.{Holds, group_count as groups_for, rows_of};
-ghost use Rattle.wah_words.specs.Canonical.{IsCanonical, Spells};
+ghost use Rattle.wah_words.specs.Canonical.{AreWords, IsCanonical, Spells};
 ghost use Rattle.wah_words.specs.Rows.{differs, pointwise, true_count};
 
 use crate::Memory;
@@ -153,4 +153,14 @@ impl Wah {
         }
         total
     }
+}
+
+/// The law of the form: words of 32 bits that spell one list are the same words, and words spell one list
+/// of a length alone.
+pub fn one_spelling()
+    ensures words { (a b : List ℕ) (list : List Bool) → AreWords a → AreWords b →
+        Spells a list → Spells b list → a ≡ b }
+    ensures list { (words : List ℕ) (a b : List Bool) → length a ≡ length b →
+        Spells words a → Spells words b → a ≡ b }
+{
 }
