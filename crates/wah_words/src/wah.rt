@@ -164,3 +164,6 @@ pub fn one_spelling()
         Spells words a → Spells words b → a ≡ b }
 {
 }
+
+#[cfg(test)]
+mod tests;
