@@ -1,7 +1,7 @@
 -- The rows that words spell.
 use Rattle.std.proofs.Common.{◌≡◌, ◌≢◌, ℕ, zero, suc, ◌+◌, ◌-◌, ◌*◌, ◌/◌, ◌%◌, ◌^◌, ◌<◌, ◌≤◌, ◌⊎◌, ◌∙◌, Bool, true, false, cond, List, [], ◌∷◌, ◌++◌, length, get_or, take, drop, replicate, refl, sym, ap, subst, arith, zero-add, take-add}
 use Rattle.std.specs.Prelude.{All, count_ones, count_by}
-use Rattle.std.proofs.lemmas.List.{append-nil, append_assoc, length-append, length-replicate, length-take, length-take-le, length-drop, take_more, take-append-drop, take_at, drop_at}
+use Rattle.std.proofs.lemmas.List.{append-nil, append_assoc, length-append, length-replicate, replicate-append-replicate, length-take, length-take-le, length-drop, take_more, take-append-drop, take_at, drop_at}
 use Rattle.std.proofs.lemmas.List.Concat.{flat_map-append}
 use Rattle.std.proofs.lemmas.List.Elements.{All-head, All-tail, All-replicate}
 use Rattle.std.proofs.lemmas.List.Sums.{sum_by-append, sum_by-cons, sum_by-take-drop, sum_by-take-le, count_by-le-length}
@@ -9,7 +9,7 @@ use Rattle.wah_words.specs.Group.{low_bits, group_rows, rows_of, group_count, Ho
 use Rattle.wah_words.specs.Rows.{true_count, cleared}
 use Rattle.wah_words.specs.Word.{groups, run_group, run_count}
 use Rattle.wah_words.specs.Canonical.{IsCanonical, Spells, spelled_rows}
-use Rattle.wah_words.proofs.Bits.{length-low_bits, low_bits-mod, true_count-low_bits}
+use Rattle.wah_words.proofs.Bits.{length-low_bits, low_bits-mod, low_bits-zero, true_count-low_bits}
 use Rattle.wah_words.proofs.Words.{groups-take-more, groups-split, run_group-lt}
 
 pub length-group_rows : (group : ℕ) → length (group_rows group) ≡ 31
@@ -133,3 +133,68 @@ rows_held gs rows holds = rw (holds.is, take_at rows (replicate holds.padding fa
 pub group_rows-mod : (group n : ℕ) → n ≤ 31 → group_rows (group % 2 ^ n) ≡ cleared n (group_rows group)
 unfolding group_rows
 group_rows-mod group n within = low_bits-mod 31 n group within ∙ ap (λ long. take n (low_bits 31 group) ++ replicate (long - n) false) (sym (length-low_bits 31 group))
+
+-- a list that is false everywhere
+false_list : (list : List Bool) → All (λ row. row ≡ false) list → list ≡ replicate (length list) false
+false_list [] each = refl
+false_list (row ∷ list) each =
+    ap (λ x. x ∷ list) (All-head (λ row. row ≡ false) row list each) ∙ ap (λ rows. false ∷ rows) (false_list list (All-tail (λ row. row ≡ false) row list each))
+
+-- all rows of canonical words, the padding too
+pub rows-padded : (words : List ℕ) (rows : ℕ) → IsCanonical words rows → rows_of (groups words) ≡ spelled_rows words rows ++ replicate (31 * group_count rows - rows) false
+rows-padded words rows canonical =
+    let all = rows_of (groups words) in
+    let long : length (drop rows all) ≡ 31 * group_count rows - rows = omega (arith, length-drop rows all, length-rows_of (groups words), canonical.size) in
+    sym (take-append-drop rows all)
+    ∙ ap (λ rest. take rows all ++ rest) (false_list (drop rows all) canonical.padding)
+    ∙ ap (λ n. take rows all ++ replicate n false) long
+
+-- groups of false rows
+group_rows-zero : group_rows 0 ≡ replicate 31 false
+unfolding group_rows
+group_rows-zero = low_bits-zero 31
+
+pub rows_of-false : (count : ℕ) → rows_of (replicate count 0) ≡ replicate (31 * count) false
+rows_of-false zero = refl
+rows_of-false (suc count) =
+    let more : 31 + 31 * count ≡ 31 * suc count = omega arith in
+    ap (λ rows. rows ++ rows_of (replicate count 0)) group_rows-zero
+    ∙ ap (λ rest. replicate 31 false ++ rest) (rows_of-false count)
+    ∙ replicate-append-replicate 31 (31 * count) false
+    ∙ ap (λ n. replicate n false) more
+
+-- the rows of words, and false after them up to some row
+holds-extended : (words : List ℕ) (list : List Bool) (n rows : ℕ) → IsCanonical words n → spelled_rows words n ≡ list → n ≤ rows → Holds (groups words ++ replicate (group_count rows - group_count n) 0) (list ++ replicate (rows - n) false)
+holds-extended words list n rows canonical is within =
+    let more = group_count rows - group_count n in
+    let padding = 31 * group_count n - n in
+    let rest = 31 * group_count rows - rows in
+    let counts : padding + 31 * more ≡ rows - n + rest = omega arith in
+    record {
+      padding = rest;
+      few = omega arith;
+      is =
+        flat_map-append group_rows (groups words) (replicate more 0)
+        ∙ ap (λ front. front ++ rows_of (replicate more 0)) (rows-padded words n canonical)
+        ∙ ap (λ end. spelled_rows words n ++ replicate padding false ++ end) (rows_of-false more)
+        ∙ append_assoc (spelled_rows words n) (replicate padding false) (replicate (31 * more) false)
+        ∙ ap (λ end. spelled_rows words n ++ end) (replicate-append-replicate padding (31 * more) false ∙ ap (λ count. replicate count false) counts ∙ sym (replicate-append-replicate (rows - n) rest false))
+        ∙ sym (append_assoc (spelled_rows words n) (replicate (rows - n) false) (replicate rest false))
+        ∙ ap (λ front. front ++ replicate (rows - n) false ++ replicate rest false) is;
+    }
+
+-- groups that were made so
+pub record IsExtended (words : List ℕ) (n : ℕ) (list : List Bool) (rows : ℕ) (out : List ℕ) : Type 0 where
+  pub canonical : IsCanonical words n
+  pub list_is : spelled_rows words n ≡ list
+  pub within : length list ≤ rows
+  pub out_is : out ≡ groups words ++ replicate (group_count rows - group_count n) 0
+
+pub length-extended : (words : List ℕ) (n : ℕ) (list : List Bool) (rows : ℕ) (out : List ℕ) → IsExtended words n list rows out → length (list ++ replicate (rows - length list) false) ≡ rows
+length-extended words n list rows out made = omega (arith, made.within, length-append list (replicate (rows - length list) false), length-replicate (rows - length list) false)
+
+pub held-extended : (words : List ℕ) (n : ℕ) (list : List Bool) (rows : ℕ) (out : List ℕ) → IsExtended words n list rows out → Holds out (list ++ replicate (rows - length list) false)
+held-extended words n list rows out made =
+    let long : n ≡ length list = sym (length-spelled_rows words n made.canonical) ∙ ap length made.list_is in
+    let holds : Holds out (list ++ replicate (rows - n) false) = rw made.out_is (holds-extended words list n rows made.canonical made.list_is (omega (arith, made.within))) in
+    rw long at holds

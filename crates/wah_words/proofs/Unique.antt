@@ -11,7 +11,7 @@ use Rattle.wah_words.specs.Canonical.{AreWords, AreRuns, AreApart, IsMixedLitera
 use lib.Lanes.{mask_l}
 use Rattle.wah_words.proofs.Bits.{mask-low_bits}
 use Rattle.wah_words.proofs.Words.{groups-cons, some_run, run_group-lt, run_group-literal, run_count-literal, run_count-fill, run_group-fill, same_head}
-use Rattle.wah_words.proofs.Spelled.{length-rows_of, length-group_rows, length-spelled_rows}
+use Rattle.wah_words.proofs.Spelled.{length-rows_of, length-group_rows, rows-padded}
 
 -- ---- groups by their rows
 
@@ -140,21 +140,6 @@ same_words (v ∷ a) (w ∷ b) a_within b_within a_runs b_runs same =
     ∙ ap (λ words. w ∷ words) (same_words a b (All-tail (λ x. x < 2 ^ 32) v a a_within) (All-tail (λ x. x < 2 ^ 32) w b b_within) (AreRuns-tail v a a_runs) (AreRuns-tail w b b_runs) rest)
 
 -- ---- spellings
-
--- a list that is false everywhere
-false_list : (list : List Bool) → All (λ row. row ≡ false) list → list ≡ replicate (length list) false
-false_list [] each = refl
-false_list (row ∷ list) each =
-    ap (λ x. x ∷ list) (All-head (λ row. row ≡ false) row list each) ∙ ap (λ rows. false ∷ rows) (false_list list (All-tail (λ row. row ≡ false) row list each))
-
--- all rows of canonical words, the padding too
-pub rows-padded : (words : List ℕ) (rows : ℕ) → IsCanonical words rows → rows_of (groups words) ≡ spelled_rows words rows ++ replicate (31 * group_count rows - rows) false
-rows-padded words rows canonical =
-    let all = rows_of (groups words) in
-    let long : length (drop rows all) ≡ 31 * group_count rows - rows = omega (arith, length-drop rows all, length-rows_of (groups words), canonical.size) in
-    sym (take-append-drop rows all)
-    ∙ ap (λ rest. take rows all ++ rest) (false_list (drop rows all) canonical.padding)
-    ∙ ap (λ n. take rows all ++ replicate n false) long
 
 pub words_from_list : (a b : List ℕ) (list : List Bool) → AreWords a → AreWords b → Spells a list → Spells b list → a ≡ b
 words_from_list a b list a_within b_within is_a is_b =

@@ -38,6 +38,16 @@ impl Builder {
         })
     }
 
+    /// The groups of words, with room for one word more.
+    pub fn from_slice(alloc: Global, words: &[u32]) -> Result<Builder, Memory>
+        requires { AreRuns words.now }
+        ensures { IfOk result (λ builder. builder ≡ groups words.now) }
+    {
+        let mut copy = Vec::with_capacity(alloc, words.len() + 1)?;
+        copy.extend_from_slice(words)?;
+        Ok(Builder { words: copy })
+    }
+
     /// Puts a group at the end whose rows differ.
     fn push_literal(&mut self, group: u32) -> Result<(), Memory>
         requires some_true { 0 < group }
@@ -66,6 +76,18 @@ impl Builder {
         }
         self.words.push(word)?;
         Ok(())
+    }
+
+    /// Puts so many groups of false rows at the end, or none.
+    pub fn push_false(&mut self, count: u32) -> Result<(), Memory>
+        requires { length self.old + count < 2 ^ 30 }
+        ensures ok { OnOk result (self.new ≡ self.old ++ replicate count 0) }
+        ensures err { OnErr result (self.new ≡ self.old) }
+    {
+        if count == 0 {
+            return Ok(());
+        }
+        self.push_fill(false, count)
     }
 
     /// Puts a run at the end.

@@ -1,5 +1,5 @@
 //! Bitvectors.
-ghost use Rattle.std.specs.Prelude.{ℕ, Bool, List, ◌≡◌, ◌<◌, ◌≤◌, ◌^◌, [], ◌∷◌, ◌++◌, ◌&&◌, ◌||◌, false, not, length, map, take, drop, All, ◌↔◌, IfOk, IfSome, IsSome};
+ghost use Rattle.std.specs.Prelude.{ℕ, Bool, List, ◌≡◌, ◌<◌, ◌≤◌, ◌^◌, [], ◌∷◌, ◌++◌, ◌&&◌, ◌||◌, false, not, length, map, take, drop, replicate, ◌-◌, All, ◌↔◌, IfOk, IfSome, IsSome};
 ghost use Rattle.wah_words.specs.Group.{Holds, group_count as groups_for, rows_of};
 ghost use Rattle.wah_words.specs.Canonical.{AreWords, IsCanonical, Spells};
 ghost use Rattle.wah_words.specs.Rows.{differs, pointwise, true_count};
@@ -113,6 +113,17 @@ impl Wah {
     {
         let groups = complement(alloc, &self.words, self.rows)?;
         Ok(Wah::of_groups(groups, self.rows))
+    }
+
+    /// The list, and false after it up to so many rows.
+    pub fn extended(&self, alloc: Global, rows: u32) -> Result<Wah, Memory>
+        requires { length self.now ≤ rows }
+        ensures { IfOk result (λ wah. wah ≡ self.now ++ replicate (rows - length self.now) false) }
+    {
+        let more = group_count(rows) - group_count(self.rows);
+        let mut groups = Builder::from_slice(alloc, &self.words)?;
+        groups.push_false(more)?;
+        Ok(Wah::of_groups(groups, rows))
     }
 
     /// The first rows of groups that have no true row after them.
