@@ -1,4 +1,5 @@
 pub mod Bits
+pub mod Marks
 pub mod Pointwise
 pub mod Reading
 pub mod Results

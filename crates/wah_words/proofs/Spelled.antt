@@ -150,7 +150,7 @@ rows-padded words rows canonical =
     ∙ ap (λ n. take rows all ++ replicate n false) long
 
 -- groups of false rows
-group_rows-zero : group_rows 0 ≡ replicate 31 false
+pub group_rows-zero : group_rows 0 ≡ replicate 31 false
 unfolding group_rows
 group_rows-zero = low_bits-zero 31
 

@@ -4,6 +4,7 @@
 mod builder;
 mod complement;
 mod operation;
+mod places;
 mod run;
 mod wah;
 mod walk;

@@ -1,5 +1,6 @@
 //! Bitvectors.
-ghost use Rattle.std.specs.Prelude.{ℕ, Bool, List, ◌≡◌, ◌<◌, ◌≤◌, ◌^◌, [], ◌∷◌, ◌++◌, ◌&&◌, ◌||◌, false, not, length, map, take, drop, replicate, ◌-◌, All, ◌↔◌, IfOk, IfSome, IsSome};
+ghost use Rattle.std.specs.Prelude.{ℕ, Bool, List, ◌≡◌, ◌<◌, ◌≤◌, ◌^◌, [], ◌∷◌, ◌++◌, ◌&&◌, ◌||◌, false, not, length, map, take, drop, replicate, slice_index_or, ◌-◌, All, Contains, ◌↔◌, IsTrue, IfOk, IfSome, IsSome};
+ghost use Rattle.std.specs.List.Sorted.{IsStrictlyIncreasing};
 ghost use Rattle.wah_words.specs.Group.{Holds, group_count as groups_for, rows_of};
 ghost use Rattle.wah_words.specs.Canonical.{AreWords, IsCanonical, Spells};
 ghost use Rattle.wah_words.specs.Rows.{differs, pointwise, true_count};
@@ -8,6 +9,7 @@ use crate::Memory;
 use crate::builder::Builder;
 use crate::complement::complement;
 use crate::operation::{And, Operation, Or, Xor};
+use crate::places::groups_of_places;
 use crate::run::{Run, group_count, group_of, is_canonical};
 use crate::walk;
 use std::alloc::Global;
@@ -40,6 +42,18 @@ impl Wah {
     {
         let groups = Wah::groups_of(alloc, rows)?;
         Ok(Wah::of_groups(groups, rows.len() as u32))
+    }
+
+    /// The list of so many rows that is true at these places alone.
+    pub fn from_places(alloc: Global, places: &[u32], rows: u32) -> Result<Wah, Memory>
+        requires rising { IsStrictlyIncreasing places.now }
+        requires below { All (λ place. place < rows) places.now }
+        ensures length { IfOk result (λ wah. length wah ≡ rows) }
+        ensures places { IfOk result (λ wah. (row : ℕ) →
+            IsTrue (slice_index_or wah row false) ↔ Contains places.now row) }
+    {
+        let groups = groups_of_places(alloc, places, rows)?;
+        Ok(Wah::of_groups(groups, rows))
     }
 
     /// The bitvector of these words, or none where they are not in the canonical form for so many rows.
