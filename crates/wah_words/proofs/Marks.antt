@@ -25,9 +25,9 @@ pub get_or-advanced : (out : List ℕ) (group count row : ℕ) → get_or (rows_
 get_or-advanced out group count row =
     let front = rows_of out ++ group_rows group in
     let rows : rows_of (out ++ group ∷ [] ++ replicate count 0) ≡ front ++ replicate (31 * count) false =
-      flat_map-append group_rows (out ++ group ∷ []) (replicate count 0)
-      ∙ ap (λ start. start ++ rows_of (replicate count 0)) (rows_of-push out group)
-      ∙ ap (λ rest. front ++ rest) (rows_of-false count) in
+    flat_map-append group_rows (out ++ group ∷ []) (replicate count 0)
+    ∙ ap (λ start. start ++ rows_of (replicate count 0)) (rows_of-push out group)
+    ∙ ap (λ rest. front ++ rest) (rows_of-false count) in
     ap (λ start. get_or (start ++ group_rows 0) row false) rows
     ∙ ap (λ end. get_or (front ++ replicate (31 * count) false ++ end) row false) group_rows-zero
     ∙ get_or-false_end (front ++ replicate (31 * count) false) 31 row
@@ -48,13 +48,13 @@ get_or-group_rows group place within = get_or-low_bits 31 group place within
 set_other : (group bit place : ℕ) → bit < 31 → place ≢ bit → get_or (group_rows (bit_or group (1 * 2 ^ bit % 2 ^ 32))) place false ≡ get_or (group_rows group) place false
 set_other group bit place within other =
     elim (cases_lt place 31) [
-      inl inside ↦
-        get_or-group_rows (bit_or group (1 * 2 ^ bit % 2 ^ 32)) place inside
-        ∙ ap (λ b. eqb b 1) (bit_at_set_other w32 group bit (omega arith) place other)
-        ∙ sym (get_or-group_rows group place inside)
-    | inr past ↦
-        get_or_past (group_rows (bit_or group (1 * 2 ^ bit % 2 ^ 32))) place false (omega (arith, length-group_rows (bit_or group (1 * 2 ^ bit % 2 ^ 32))))
-        ∙ sym (get_or_past (group_rows group) place false (omega (arith, length-group_rows group)))
+      | inl inside ↦
+          get_or-group_rows (bit_or group (1 * 2 ^ bit % 2 ^ 32)) place inside
+          ∙ ap (λ b. eqb b 1) (bit_at_set_other w32 group bit (omega arith) place other)
+          ∙ sym (get_or-group_rows group place inside)
+      | inr past ↦
+          get_or_past (group_rows (bit_or group (1 * 2 ^ bit % 2 ^ 32))) place false (omega (arith, length-group_rows (bit_or group (1 * 2 ^ bit % 2 ^ 32))))
+          ∙ sym (get_or_past (group_rows group) place false (omega (arith, length-group_rows group)))
     ]
 
 set_same : (group bit : ℕ) → bit < 31 → get_or (group_rows (bit_or group (1 * 2 ^ bit % 2 ^ 32))) bit false ≡ true
@@ -72,11 +72,11 @@ set_row_other : (front : List Bool) (group bit row : ℕ) → bit < 31 → row �
 set_row_other front group bit row within other =
     let new = group_rows (bit_or group (1 * 2 ^ bit % 2 ^ 32)) in
     elim (cases_lt row (length front)) [
-      inl before ↦ get_or_append_left front new false row before ∙ sym (get_or_append_left front (group_rows group) false row before)
-    | inr from ↦
-        get_or-append_right front new (length front) row false refl from
-        ∙ set_other group bit (row - length front) within (λ same. other (omega arith))
-        ∙ sym (get_or-append_right front (group_rows group) (length front) row false refl from)
+      | inl before ↦ get_or_append_left front new false row before ∙ sym (get_or_append_left front (group_rows group) false row before)
+      | inr from ↦
+          get_or-append_right front new (length front) row false refl from
+          ∙ set_other group bit (row - length front) within (λ same. other (omega arith))
+          ∙ sym (get_or-append_right front (group_rows group) (length front) row false refl from)
     ]
 
 -- the true rows are the places before i, and index is the number of the group under way
@@ -91,26 +91,26 @@ pub record IsMarked (places : List ℕ) (i : ℕ) (out : List ℕ) (group index 
 pub index-le : (places : List ℕ) (i : ℕ) (out : List ℕ) (group index : ℕ) → IsStrictlyIncreasing places → IsMarked places i out group index → i < length places → index ≤ get_or places i 0 / 31
 index-le places i out group index rising marked within =
     elim (cases_lt 0 i) [
-      inl some ↦
-        let next : i - 1 + 1 ≡ i = omega arith in
-        let above : get_or places (i - 1) 0 < get_or places i 0 = rw next at (rising (i - 1) (omega arith)) in
-        omega (arith, marked.last some)
-    | inr none ↦ omega (arith, (marked.first (omega arith)).0)
+      | inl some ↦
+          let next : i - 1 + 1 ≡ i = omega arith in
+          let above : get_or places (i - 1) 0 < get_or places i 0 = rw next at (rising (i - 1) (omega arith)) in
+          omega (arith, marked.last some)
+      | inr none ↦ omega (arith, (marked.first (omega arith)).0)
     ]
 
 -- a place is the new one, or one before it
 now_contained : (xs : List ℕ) (x row : ℕ) → (row ≢ x → Contains xs row) → Contains (xs ++ x ∷ []) row
 now_contained xs x row earlier =
     elim (cases_eq row x) [
-      inl same ↦ subst (Contains (xs ++ x ∷ [])) (sym same) (Contains-push xs x)
-    | inr other ↦ Contains-append_left xs (x ∷ []) row (earlier other)
+      | inl same ↦ subst (Contains (xs ++ x ∷ [])) (sym same) (Contains-push xs x)
+      | inr other ↦ Contains-append_left xs (x ∷ []) row (earlier other)
     ]
 
 now_true : (value : Bool) (xs : List ℕ) (x row : ℕ) → (row ≡ x → value ≡ true) → (row ≢ x → Contains xs row → value ≡ true) → Contains (xs ++ x ∷ []) row → value ≡ true
 now_true value xs x row at earlier has =
     elim (cases_eq row x) [
-      inl same ↦ at same
-    | inr other ↦ earlier other (elim (Contains-push_cases xs x row has) [ inl before ↦ before | inr is ↦ absurd (other (sym is)) ])
+      | inl same ↦ at same
+      | inr other ↦ earlier other (elim (Contains-push_cases xs x row has) [ inl before ↦ before | inr is ↦ absurd (other (sym is)) ])
     ]
 
 -- one place more
@@ -123,18 +123,19 @@ marked_more places i out out' group next index marked within next_within size sa
     let more : take (i + 1) places ≡ take i places ++ place ∷ [] = take_more places i 0 within in
     let new = bit_or next (1 * 2 ^ bit % 2 ^ 32) in
     let elsewhere : (row : ℕ) → row ≢ place → get_or (front ++ group_rows new) row false ≡ get_or (rows_of out ++ group_rows group) row false =
-      λ row other. set_row_other front next bit row (omega arith) (λ there. other (there ∙ at)) ∙ same row in
+    λ row other. set_row_other front next bit row (omega arith) (λ there. other (there ∙ at)) ∙ same row in
     record {
       within = new_within;
       size = size;
       first = λ none. absurd (omega arith);
       last = λ _. let before : i + 1 - 1 ≡ i = omega arith in rw before refl;
-      rows = λ row.
-        (λ is_true. subst (λ xs. Contains xs row) (sym more) (now_contained (take i places) place row (λ other. (marked.rows row).0 (sym (elsewhere row other) ∙ is_true))),
-          λ has. now_true (get_or (front ++ group_rows new) row false) (take i places) place row
+      rows = λ row. (
+        λ is_true. subst (λ xs. Contains xs row) (sym more) (now_contained (take i places) place row (λ other. (marked.rows row).0 (sym (elsewhere row other) ∙ is_true))),
+        λ has. now_true (get_or (front ++ group_rows new) row false) (take i places) place row
             (λ there. ap (λ r. get_or (front ++ group_rows new) r false) (there ∙ sym at) ∙ set_row_same front next bit (omega arith))
             (λ other earlier. elsewhere row other ∙ (marked.rows row).1 earlier)
-            (subst (λ xs. Contains xs row) more has));
+            (subst (λ xs. Contains xs row) more has),
+      );
     }
 
 false_row : (row : ℕ) → get_or (group_rows 0) row false ≡ true → ⊥
@@ -164,33 +165,34 @@ pub record IsDone (places : List ℕ) (rows i : ℕ) (out : List ℕ) (group ind
 nothing_left : (places : List ℕ) (rows i : ℕ) (out : List ℕ) (group index : ℕ) (done : List ℕ) (next : ℕ) → IsDone places rows i out group index done next → next ≡ 0
 nothing_left places rows i out group index done next is =
     elim (cases_lt 0 (group_count rows - index)) [
-      inl some ↦ is.ended some
-    | inr none ↦
-        elim (cases_lt 0 i) [
-          inl there ↦ absurd (omega (arith, is.marked.last there, is.below (i - 1) 0 (omega (arith, is.all))))
-        | inr none_read ↦ is.kept (omega arith) ∙ (is.marked.first (omega arith)).1
-        ]
+      | inl some ↦ is.ended some
+      | inr none ↦
+          elim (cases_lt 0 i) [
+            | inl there ↦ absurd (omega (arith, is.marked.last there, is.below (i - 1) 0 (omega (arith, is.all))))
+            | inr none_read ↦ is.kept (omega arith) ∙ (is.marked.first (omega arith)).1
+          ]
     ]
 
 pub rows_done : (places : List ℕ) (rows i : ℕ) (out : List ℕ) (group index : ℕ) (done : List ℕ) (next : ℕ) → IsDone places rows i out group index done next → (row : ℕ) → IsTrue (get_or (rows_of done) row false) ↔ Contains places row
 rows_done places rows i out group index done next is row =
     let all : take i places ≡ places = take_all i places (omega (arith, is.all)) in
     let value : get_or (rows_of done) row false ≡ get_or (rows_of out ++ group_rows group) row false =
-      sym (get_or-false_end (rows_of done) 31 row)
-      ∙ ap (λ end. get_or (rows_of done ++ end) row false) (sym group_rows-zero)
-      ∙ ap (λ g. get_or (rows_of done ++ group_rows g) row false) (sym (nothing_left places rows i out group index done next is))
-      ∙ is.same row in
-    (λ is_true. subst (λ xs. Contains xs row) all ((is.marked.rows row).0 (sym value ∙ is_true)),
-      λ has. value ∙ (is.marked.rows row).1 (subst (λ xs. Contains xs row) (sym all) has))
+    sym (get_or-false_end (rows_of done) 31 row)
+    ∙ ap (λ end. get_or (rows_of done ++ end) row false) (sym group_rows-zero)
+    ∙ ap (λ g. get_or (rows_of done ++ group_rows g) row false) (sym (nothing_left places rows i out group index done next is))
+    ∙ is.same row in (
+      λ is_true. subst (λ xs. Contains xs row) all ((is.marked.rows row).0 (sym value ∙ is_true)),
+      λ has. value ∙ (is.marked.rows row).1 (subst (λ xs. Contains xs row) (sym all) has),
+    )
 
 -- the rows before an end that no place passes
 pub rows_taken : (places : List ℕ) (rows : ℕ) (list : List Bool) → rows ≤ length list → All (λ place. place < rows) places → ((row : ℕ) → IsTrue (get_or list row false) ↔ Contains places row) → (row : ℕ) → IsTrue (get_or (take rows list) row false) ↔ Contains places row
 rows_taken places rows list within below marks row =
     elim (cases_lt row rows) [
-      inl inside ↦
-        let value = get_or-take rows list row false inside in
-        (λ is_true. (marks row).0 (sym value ∙ is_true), λ has. value ∙ (marks row).1 has)
-    | inr past ↦
-        let value : get_or (take rows list) row false ≡ false = get_or_past (take rows list) row false (omega (arith, length-take-le rows list within)) in
-        (λ is_true. absurd (let never : false ≡ true = sym value ∙ is_true in cc), λ has. absurd (omega (arith, All-contains (λ place. place < rows) places row below has)))
+      | inl inside ↦
+          let value = get_or-take rows list row false inside in
+          (λ is_true. (marks row).0 (sym value ∙ is_true), λ has. value ∙ (marks row).1 has)
+      | inr past ↦
+          let value : get_or (take rows list) row false ≡ false = get_or_past (take rows list) row false (omega (arith, length-take-le rows list within)) in
+          (λ is_true. absurd (let never : false ≡ true = sym value ∙ is_true in cc), λ has. absurd (omega (arith, All-contains (λ place. place < rows) places row below has)))
     ]

@@ -128,10 +128,10 @@ cleared-append : (rows : ℕ) (a b : List Bool) → length a ≤ rows → cleare
 cleared-append rows a b within =
     let parts : rows ≡ length a + (rows - length a) = omega arith in
     let kept : take rows (a ++ b) ≡ a ++ take (rows - length a) b =
-      ap (λ n. take n (a ++ b)) parts
-      ∙ take-add (length a) (rows - length a) (a ++ b)
-      ∙ ap (λ front. front ++ take (rows - length a) (drop (length a) (a ++ b))) (take_at a b (length a) refl)
-      ∙ ap (λ rest. a ++ take (rows - length a) rest) (drop_at a b (length a) refl) in
+    ap (λ n. take n (a ++ b)) parts
+    ∙ take-add (length a) (rows - length a) (a ++ b)
+    ∙ ap (λ front. front ++ take (rows - length a) (drop (length a) (a ++ b))) (take_at a b (length a) refl)
+    ∙ ap (λ rest. a ++ take (rows - length a) rest) (drop_at a b (length a) refl) in
     let padding : length (a ++ b) - rows ≡ length b - (rows - length a) = omega (arith, length-append a b) in
     ap (λ front. front ++ replicate (length (a ++ b) - rows) false) kept
     ∙ append_assoc a (take (rows - length a) b) (replicate (length (a ++ b) - rows) false)
@@ -157,9 +157,9 @@ rows_of-last_cleared out count g last rows some there size is =
     let within : length (rows_of front) ≤ rows = omega (arith, length-rows_of front) in
     let one_more : count - 1 + 1 ≡ count = omega arith in
     let whole : rows_of front ++ group_rows g ≡ rows_of out ++ rows_of (replicate count g) =
-      sym (rows_of-push front g)
-      ∙ ap rows_of (append_assoc out (replicate (count - 1) g) (g ∷ []) ∙ ap (λ run. out ++ run) (replicate_more (count - 1) g ∙ ap (λ n. replicate n g) one_more))
-      ∙ flat_map-append group_rows out (replicate count g) in
+    sym (rows_of-push front g)
+    ∙ ap rows_of (append_assoc out (replicate (count - 1) g) (g ∷ []) ∙ ap (λ run. out ++ run) (replicate_more (count - 1) g ∙ ap (λ n. replicate n g) one_more))
+    ∙ flat_map-append group_rows out (replicate count g) in
     rows_of-push front last
     ∙ ap (λ end. rows_of front ++ end) (is ∙ ap (λ n. cleared n (group_rows g)) before)
     ∙ sym (cleared-append rows (rows_of front) (group_rows g) within)
@@ -182,10 +182,10 @@ pub front_run : (gs rest : List ℕ) (group whole count : ℕ) → count ≤ who
 front_run gs rest group whole count within is =
     let parts : count + (whole - count) ≡ whole = omega arith in
     let split : gs ≡ replicate count group ++ (replicate (whole - count) group ++ rest) =
-      is
-      ∙ ap (λ n. replicate n group ++ rest) (sym parts)
-      ∙ ap (λ run. run ++ rest) (sym (replicate-append-replicate count (whole - count) group))
-      ∙ append_assoc (replicate count group) (replicate (whole - count) group) rest in
+    is
+    ∙ ap (λ n. replicate n group ++ rest) (sym parts)
+    ∙ ap (λ run. run ++ rest) (sym (replicate-append-replicate count (whole - count) group))
+    ∙ append_assoc (replicate count group) (replicate (whole - count) group) rest in
     split ∙ ap (λ after. replicate count group ++ after) (sym (ap (drop count) split ∙ drop_at (replicate count group) (replicate (whole - count) group ++ rest) count (length-replicate count group)))
 
 -- two lists that begin with runs, and what the operation makes of the runs
@@ -201,13 +201,13 @@ pointwise-step bit out a b count r is =
     let left = rows_of (replicate count is.left_group) in
     let right = rows_of (replicate count is.right_group) in
     let long : length left ≡ length right =
-      omega (arith, length-rows_of (replicate count is.left_group), length-rows_of (replicate count is.right_group), length-replicate count is.left_group, length-replicate count is.right_group) in
+    omega (arith, length-rows_of (replicate count is.left_group), length-rows_of (replicate count is.right_group), length-replicate count is.left_group, length-replicate count is.right_group) in
     let both : pointwise bit (rows_of a) (rows_of b) ≡ pointwise bit left right ++ pointwise bit (rows_of (drop count a)) (rows_of (drop count b)) =
-      ap (λ gs. pointwise bit (rows_of gs) (rows_of b)) is.left
-      ∙ ap (λ gs. pointwise bit (rows_of (replicate count is.left_group ++ drop count a)) (rows_of gs)) is.right
-      ∙ ap (λ rows. pointwise bit rows (rows_of (replicate count is.right_group ++ drop count b))) (flat_map-append group_rows (replicate count is.left_group) (drop count a))
-      ∙ ap (λ rows. pointwise bit (left ++ rows_of (drop count a)) rows) (flat_map-append group_rows (replicate count is.right_group) (drop count b))
-      ∙ pointwise-append bit left right (rows_of (drop count a)) (rows_of (drop count b)) long in
+    ap (λ gs. pointwise bit (rows_of gs) (rows_of b)) is.left
+    ∙ ap (λ gs. pointwise bit (rows_of (replicate count is.left_group ++ drop count a)) (rows_of gs)) is.right
+    ∙ ap (λ rows. pointwise bit rows (rows_of (replicate count is.right_group ++ drop count b))) (flat_map-append group_rows (replicate count is.left_group) (drop count a))
+    ∙ ap (λ rows. pointwise bit (left ++ rows_of (drop count a)) rows) (flat_map-append group_rows (replicate count is.right_group) (drop count b))
+    ∙ pointwise-append bit left right (rows_of (drop count a)) (rows_of (drop count b)) long in
     let rest = pointwise bit (rows_of (drop count a)) (rows_of (drop count b)) in
     ap (λ rows. rows ++ rest) (flat_map-append group_rows out (replicate count r) ∙ ap (λ last. rows_of out ++ last) (rows_of-combined bit count is.left_group is.right_group r is.rows))
     ∙ append_assoc (rows_of out) (pointwise bit left right) rest

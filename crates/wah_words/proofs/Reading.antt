@@ -25,7 +25,7 @@ pub read_more : (words : List ℕ) (rows i previous left left' : ℕ) → IsRead
 read_more words rows i previous left left' read within literal fill apart less =
     let long : length (take i words) ≡ i = length-take-le i words (omega arith) in
     let after : 0 < length (take i words) → AreApart (get_or (take i words) (length (take i words) - 1) 0) (get_or words i 0) =
-      λ some. let there : 0 < i = omega arith in rw (long, get_or-take i words (i - 1) 0 (omega arith)) (rw (read.last there) at apart) in
+    λ some. let there : 0 < i = omega arith in rw (long, get_or-take i words (i - 1) 0 (omega arith)) (rw (read.last there) at apart) in
     record {
       runs = subst AreRuns (sym (take_more words i 0 within)) (AreRuns-push (take i words) (get_or words i 0) read.runs (record { literal = literal; fill = fill }) after);
       first = λ none. absurd (omega arith);
@@ -84,12 +84,13 @@ drop-last_group front g rows size some =
 ends_in : (words : List ℕ) (i : ℕ) → i + 1 ≡ length words → IsCountedFill (get_or words i 0) → (front : List ℕ) × (groups words ≡ front ++ run_group (get_or words i 0) ∷ [])
 ends_in words i last counted =
     let w = get_or words i 0 in
-    let one_less : run_count w ≡ run_count w - 1 + 1 = omega (arith, some_run w counted) in
-    (groups (take i words) ++ replicate (run_count w - 1) (run_group w),
+    let one_less : run_count w ≡ run_count w - 1 + 1 = omega (arith, some_run w counted) in (
+      groups (take i words) ++ replicate (run_count w - 1) (run_group w),
       ap groups (sym (take_all (i + 1) words (omega arith)))
-      ∙ groups-take-more words i (omega arith)
-      ∙ ap (λ run. groups (take i words) ++ run) (ap (λ n. replicate n (run_group w)) one_less ∙ sym (replicate_more (run_count w - 1) (run_group w)))
-      ∙ sym (append_assoc (groups (take i words)) (replicate (run_count w - 1) (run_group w)) (run_group w ∷ [])))
+          ∙ groups-take-more words i (omega arith)
+          ∙ ap (λ run. groups (take i words) ++ run) (ap (λ n. replicate n (run_group w)) one_less ∙ sym (replicate_more (run_count w - 1) (run_group w)))
+          ∙ sym (append_assoc (groups (take i words)) (replicate (run_count w - 1) (run_group w)) (run_group w ∷ [])),
+    )
 
 -- past the last row stand the high bits of the last word's group
 padding_bits : (words : List ℕ) (rows i previous : ℕ) → IsReadTo words rows i previous 0 → i ≡ length words → 0 < rows % 31 → drop rows (rows_of (groups words)) ≡ low_bits (31 - rows % 31) (run_group previous / 2 ^ (rows % 31))

@@ -55,8 +55,8 @@ true_count-more words i within =
 true_count-take-le : (words : List ℕ) (i : ℕ) → true_count (rows_of (groups (take i words))) ≤ true_count (rows_of (groups words))
 true_count-take-le words i =
     let parted : rows_of (groups words) ≡ rows_of (groups (take i words)) ++ rows_of (groups (drop i words)) =
-      ap rows_of (groups-split words i)
-      ∙ flat_map-append group_rows (groups (take i words)) (groups (drop i words)) in
+    ap rows_of (groups-split words i)
+    ∙ flat_map-append group_rows (groups (take i words)) (groups (drop i words)) in
     omega (arith, ap true_count parted, true_count-append (rows_of (groups (take i words))) (rows_of (groups (drop i words))))
 
 -- a total over the words so far, and what one word adds to it
@@ -119,7 +119,7 @@ last_group gs rows chunk i g so_far is group =
 pub length-held : (gs : List ℕ) (rows : List Bool) → Holds gs rows → length gs ≡ group_count (length rows)
 length-held gs rows holds =
     let long : 31 * length gs ≡ length rows + holds.padding =
-      sym (length-rows_of gs) ∙ ap length holds.is ∙ length-append rows (replicate holds.padding false) ∙ ap (λ n. length rows + n) (length-replicate holds.padding false) in
+    sym (length-rows_of gs) ∙ ap length holds.is ∙ length-append rows (replicate holds.padding false) ∙ ap (λ n. length rows + n) (length-replicate holds.padding false) in
     omega (arith, holds.few)
 
 pub padding_held : (gs : List ℕ) (rows : List Bool) → Holds gs rows → All (λ row. row ≡ false) (drop (length rows) (rows_of gs))
@@ -174,13 +174,13 @@ holds-extended words list n rows canonical is within =
       padding = rest;
       few = omega arith;
       is =
-        flat_map-append group_rows (groups words) (replicate more 0)
-        ∙ ap (λ front. front ++ rows_of (replicate more 0)) (rows-padded words n canonical)
-        ∙ ap (λ end. spelled_rows words n ++ replicate padding false ++ end) (rows_of-false more)
-        ∙ append_assoc (spelled_rows words n) (replicate padding false) (replicate (31 * more) false)
-        ∙ ap (λ end. spelled_rows words n ++ end) (replicate-append-replicate padding (31 * more) false ∙ ap (λ count. replicate count false) counts ∙ sym (replicate-append-replicate (rows - n) rest false))
-        ∙ sym (append_assoc (spelled_rows words n) (replicate (rows - n) false) (replicate rest false))
-        ∙ ap (λ front. front ++ replicate (rows - n) false ++ replicate rest false) is;
+          flat_map-append group_rows (groups words) (replicate more 0)
+          ∙ ap (λ front. front ++ rows_of (replicate more 0)) (rows-padded words n canonical)
+          ∙ ap (λ end. spelled_rows words n ++ replicate padding false ++ end) (rows_of-false more)
+          ∙ append_assoc (spelled_rows words n) (replicate padding false) (replicate (31 * more) false)
+          ∙ ap (λ end. spelled_rows words n ++ end) (replicate-append-replicate padding (31 * more) false ∙ ap (λ count. replicate count false) counts ∙ sym (replicate-append-replicate (rows - n) rest false))
+          ∙ sym (append_assoc (spelled_rows words n) (replicate (rows - n) false) (replicate rest false))
+          ∙ ap (λ front. front ++ replicate (rows - n) false ++ replicate rest false) is;
     }
 
 -- groups that were made so

@@ -25,9 +25,9 @@ groups_from_rows [] (h ∷ hs) each_g each_h same = absurd (omega (arith, ap len
 groups_from_rows (g ∷ gs) [] each_g each_h same = absurd (omega (arith, ap length same, length-rows_of [], length-rows_of (g ∷ gs)))
 groups_from_rows (g ∷ gs) (h ∷ hs) each_g each_h same =
     let first : group_rows g ≡ group_rows h =
-      sym (take_at (group_rows g) (rows_of gs) 31 (length-group_rows g)) ∙ ap (take 31) same ∙ take_at (group_rows h) (rows_of hs) 31 (length-group_rows h) in
+    sym (take_at (group_rows g) (rows_of gs) 31 (length-group_rows g)) ∙ ap (take 31) same ∙ take_at (group_rows h) (rows_of hs) 31 (length-group_rows h) in
     let rest : rows_of gs ≡ rows_of hs =
-      sym (drop_at (group_rows g) (rows_of gs) 31 (length-group_rows g)) ∙ ap (drop 31) same ∙ drop_at (group_rows h) (rows_of hs) 31 (length-group_rows h) in
+    sym (drop_at (group_rows g) (rows_of gs) 31 (length-group_rows g)) ∙ ap (drop 31) same ∙ drop_at (group_rows h) (rows_of hs) 31 (length-group_rows h) in
     let heads : g ≡ h = group_from_rows g h (All-head (λ x. x < 2 ^ 31) g gs each_g) (All-head (λ x. x < 2 ^ 31) h hs each_h) first in
     ap (λ x. x ∷ gs) heads ∙ ap (λ xs. h ∷ xs) (groups_from_rows gs hs (All-tail (λ x. x < 2 ^ 31) g gs each_g) (All-tail (λ x. x < 2 ^ 31) h hs each_h) rest)
 
@@ -61,22 +61,22 @@ filled-uniform false n is some less = omega arith
 fill_of_one_value : (v w : ℕ) → IsMixedLiteral v → 2 ^ 31 ≤ w → run_group v ≡ run_group w → 2 ^ 31 ≤ v
 fill_of_one_value v w mixed above same =
     elim (cases_lt v (2 ^ 31)) [
-      inl low ↦ absurd (filled-uniform (eqb (w / 2 ^ 30 % 2) 1) v (sym (run_group-literal v low) ∙ same ∙ run_group-fill w above) (mixed low).0 (mixed low).1)
-    | inr high ↦ high
+      | inl low ↦ absurd (filled-uniform (eqb (w / 2 ^ 30 % 2) 1) v (sym (run_group-literal v low) ∙ same ∙ run_group-fill w above) (mixed low).0 (mixed low).1)
+      | inr high ↦ high
     ]
 
 -- a word by its run
 word_from_run : (v w : ℕ) → v < 2 ^ 32 → w < 2 ^ 32 → IsMixedLiteral v → IsMixedLiteral w → run_group v ≡ run_group w → run_count v ≡ run_count w → v ≡ w
 word_from_run v w v_within w_within v_mixed w_mixed group count =
     elim (cases_lt v (2 ^ 31)) [
-      inl v_low ↦
-        elim (cases_lt w (2 ^ 31)) [
-          inl w_low ↦ sym (run_group-literal v v_low) ∙ group ∙ run_group-literal w w_low
-        | inr w_high ↦ absurd (omega (arith, fill_of_one_value v w v_mixed w_high group))
-        ]
-    | inr v_high ↦
-        let w_high : 2 ^ 31 ≤ w = fill_of_one_value w v w_mixed v_high (sym group) in
-        omega (arith, same_head v w v_high v_within w_high w_within group, run_count-fill v v_high, run_count-fill w w_high, count)
+      | inl v_low ↦
+          elim (cases_lt w (2 ^ 31)) [
+            | inl w_low ↦ sym (run_group-literal v v_low) ∙ group ∙ run_group-literal w w_low
+            | inr w_high ↦ absurd (omega (arith, fill_of_one_value v w v_mixed w_high group))
+          ]
+      | inr v_high ↦
+          let w_high : 2 ^ 31 ≤ w = fill_of_one_value w v w_mixed v_high (sym group) in
+          omega (arith, same_head v w v_high v_within w_high w_within group, run_count-fill v v_high, run_count-fill w w_high, count)
     ]
 
 -- the first groups of two lists that begin with runs
@@ -91,7 +91,7 @@ after_fill v n [] rest runs above some same = omega (arith, ap length same, leng
 after_fill v n (x ∷ a) rest runs above some same =
     let tail = AreRuns-tail v (x ∷ a) runs in
     let group : run_group x ≡ run_group v =
-      first_of_runs (run_count x) n (run_group x) (run_group v) (groups a) rest (some_run x (All-head IsCountedFill x a tail.fills)) some (sym (groups-cons x a) ∙ same) in
+    first_of_runs (run_count x) n (run_group x) (run_group v) (groups a) rest (some_run x (All-head IsCountedFill x a tail.fills)) some (sym (groups-cons x a) ∙ same) in
     let high : 2 ^ 31 ≤ x = fill_of_one_value x v (All-head IsMixedLiteral x a tail.literals) above group in
     first_apart v x a runs above high (sym group)
 
@@ -103,10 +103,10 @@ no_longer v w a b runs group shorter same =
     let more = run_count w - run_count v in
     let whole : run_count v + more ≡ run_count w = omega arith in
     let longer : replicate (run_count w) (run_group w) ++ groups b ≡ replicate (run_count v) (run_group v) ++ (replicate more (run_group v) ++ groups b) =
-      ap (λ g. replicate (run_count w) g ++ groups b) (sym group)
-      ∙ ap (λ n. replicate n (run_group v) ++ groups b) (sym whole)
-      ∙ ap (λ run. run ++ groups b) (sym (replicate-append-replicate (run_count v) more (run_group v)))
-      ∙ append_assoc (replicate (run_count v) (run_group v)) (replicate more (run_group v)) (groups b) in
+    ap (λ g. replicate (run_count w) g ++ groups b) (sym group)
+    ∙ ap (λ n. replicate n (run_group v) ++ groups b) (sym whole)
+    ∙ ap (λ run. run ++ groups b) (sym (replicate-append-replicate (run_count v) more (run_group v)))
+    ∙ append_assoc (replicate (run_count v) (run_group v)) (replicate more (run_group v)) (groups b) in
     after_fill v more a (groups b) runs high (omega arith)
     (append_cancel_left (replicate (run_count v) (run_group v)) (groups a) (replicate more (run_group v) ++ groups b) (sym (groups-cons v a) ∙ same ∙ groups-cons w b ∙ longer))
 
@@ -124,18 +124,18 @@ same_words (v ∷ a) (w ∷ b) a_within b_within a_runs b_runs same =
     let some_w = some_run w (All-head IsCountedFill w b b_runs.fills) in
     let group : run_group v ≡ run_group w = first_of_runs (run_count v) (run_count w) (run_group v) (run_group w) (groups a) (groups b) some_v some_w parts in
     let count : run_count v ≡ run_count w =
-      elim (cases_lt (run_count v) (run_count w)) [
-        inl less ↦ absurd (no_longer v w a b a_runs group less same)
+    elim (cases_lt (run_count v) (run_count w)) [
+      | inl less ↦ absurd (no_longer v w a b a_runs group less same)
       | inr more ↦
           elim (cases_lt (run_count w) (run_count v)) [
-            inl less ↦ absurd (no_longer w v b a b_runs (sym group) less (sym same))
-          | inr equal ↦ omega arith
+            | inl less ↦ absurd (no_longer w v b a b_runs (sym group) less (sym same))
+            | inr equal ↦ omega arith
           ]
-      ] in
+    ] in
     let word : v ≡ w =
-      word_from_run v w (All-head (λ x. x < 2 ^ 32) v a a_within) (All-head (λ x. x < 2 ^ 32) w b b_within) (All-head IsMixedLiteral v a a_runs.literals) (All-head IsMixedLiteral w b b_runs.literals) group count in
+    word_from_run v w (All-head (λ x. x < 2 ^ 32) v a a_within) (All-head (λ x. x < 2 ^ 32) w b b_within) (All-head IsMixedLiteral v a a_runs.literals) (All-head IsMixedLiteral w b b_runs.literals) group count in
     let rest : groups a ≡ groups b =
-      append_cancel_left (replicate (run_count v) (run_group v)) (groups a) (groups b) (parts ∙ ap (λ g. replicate (run_count w) g ++ groups b) (sym group) ∙ ap (λ n. replicate n (run_group v) ++ groups b) (sym count)) in
+    append_cancel_left (replicate (run_count v) (run_group v)) (groups a) (groups b) (parts ∙ ap (λ g. replicate (run_count w) g ++ groups b) (sym group) ∙ ap (λ n. replicate n (run_group v) ++ groups b) (sym count)) in
     ap (λ x. x ∷ a) word
     ∙ ap (λ words. w ∷ words) (same_words a b (All-tail (λ x. x < 2 ^ 32) v a a_within) (All-tail (λ x. x < 2 ^ 32) w b b_within) (AreRuns-tail v a a_runs) (AreRuns-tail w b b_runs) rest)
 
@@ -145,7 +145,7 @@ pub words_from_list : (a b : List ℕ) (list : List Bool) → AreWords a → Are
 words_from_list a b list a_within b_within is_a is_b =
     let padding = replicate (31 * group_count (length list) - length list) false in
     let rows : rows_of (groups a) ≡ rows_of (groups b) =
-      rows-padded a (length list) is_a.canonical
-      ∙ ap (λ front. front ++ padding) (is_a.rows ∙ sym is_b.rows)
-      ∙ sym (rows-padded b (length list) is_b.canonical) in
+    rows-padded a (length list) is_a.canonical
+    ∙ ap (λ front. front ++ padding) (is_a.rows ∙ sym is_b.rows)
+    ∙ sym (rows-padded b (length list) is_b.canonical) in
     same_words a b a_within b_within is_a.canonical.runs is_b.canonical.runs (groups_from_rows (groups a) (groups b) (groups_within a) (groups_within b) rows)

@@ -38,8 +38,8 @@ filled-lt false = omega arith
 pub run_group-lt : (w : ℕ) → run_group w < 2 ^ 31
 run_group-lt w =
     elim (cases_lt w (2 ^ 31)) [
-      inl low ↦ rw (run_group-literal w low) low
-    | inr high ↦ rw (run_group-fill w high) (filled-lt (eqb (w / 2 ^ 30 % 2) 1))
+      | inl low ↦ rw (run_group-literal w low) low
+      | inr high ↦ rw (run_group-fill w high) (filled-lt (eqb (w / 2 ^ 30 % 2) 1))
     ]
 
 -- one more word at the end
@@ -126,10 +126,10 @@ apart-push : (ws : List ℕ) (w : ℕ) → ((k : ℕ) → k + 1 < length ws → 
 apart-push ws w before last k within =
     let long : k + 1 < length ws + 1 = omega (arith, length_push ws w) in
     elim (cases_lt (k + 1) (length ws)) [
-      inl inside ↦ rw (get_or_append_left ws (w ∷ []) 0 k (omega arith), get_or_append_left ws (w ∷ []) 0 (k + 1) inside) (before k inside)
-    | inr at ↦
-        let end : length ws - 1 ≡ k = omega arith in
-        rw (get_or_append_left ws (w ∷ []) 0 k (omega arith), get_or_push ws w 0 (k + 1) (omega arith)) (rw end at (last (omega arith)))
+      | inl inside ↦ rw (get_or_append_left ws (w ∷ []) 0 k (omega arith), get_or_append_left ws (w ∷ []) 0 (k + 1) inside) (before k inside)
+      | inr at ↦
+          let end : length ws - 1 ≡ k = omega arith in
+          rw (get_or_append_left ws (w ∷ []) 0 k (omega arith), get_or_push ws w 0 (k + 1) (omega arith)) (rw end at (last (omega arith)))
     ]
 
 -- a front of runs, and one more word
@@ -146,8 +146,8 @@ AreRuns-front ws w runs =
       literals = All-front IsMixedLiteral ws w runs.literals;
       fills = All-front IsCountedFill ws w runs.fills;
       neighbours = λ k within.
-        rw (get_or_append_left ws (w ∷ []) 0 k (omega arith), get_or_append_left ws (w ∷ []) 0 (k + 1) within)
-        at (runs.neighbours k (omega (arith, length_push ws w)));
+          rw (get_or_append_left ws (w ∷ []) 0 k (omega arith), get_or_append_left ws (w ∷ []) 0 (k + 1) within)
+          at (runs.neighbours k (omega (arith, length_push ws w)));
     }
 
 -- the last word counts no more groups than all words have
@@ -192,7 +192,7 @@ AreRuns-grown front last count runs above room =
       fill = λ _. omega (arith, run_count-grown last count above room, counted_last front last runs above);
     })
     (λ some before _ same.
-      apart_last front last runs some before above (same ∙ run_group-grown last count above room))
+    apart_last front last runs some before above (same ∙ run_group-grown last count above room))
 
 -- the last of some words is a fill of the value of w, and there is room for so many groups more
 pub record MayGrow (ws : List ℕ) (n last w count : ℕ) : Type 0 where

@@ -5,13 +5,12 @@ ghost use Rattle.wah_words.specs.Group.{Holds, group_count as groups_for, rows_o
 ghost use Rattle.wah_words.specs.Canonical.{AreWords, IsCanonical, Spells};
 ghost use Rattle.wah_words.specs.Rows.{differs, pointwise, true_count};
 
-use crate::Memory;
 use crate::builder::Builder;
 use crate::complement::complement;
 use crate::operation::{And, Operation, Or, Xor};
 use crate::places::groups_of_places;
 use crate::run::{Run, group_count, group_of, is_canonical};
-use crate::walk;
+use crate::{Memory, walk};
 use std::alloc::Global;
 use std::marker::Model;
 
@@ -187,8 +186,7 @@ pub fn one_spelling()
         Spells a list → Spells b list → a ≡ b }
     ensures list { (words : List ℕ) (a b : List Bool) → length a ≡ length b →
         Spells words a → Spells words b → a ≡ b }
-{
-}
+{}
 
 #[cfg(test)]
 mod tests;

@@ -57,7 +57,12 @@ impl<'a> Cursor<'a> {
 
 /// What the operation makes of the groups of two word lists, as many on each side. A step takes a run, so
 /// a fill beside a fill costs the same whatever they count.
-pub fn combined<O: Operation>(alloc: Global, a: &[u32], b: &[u32], groups: u32) -> Result<Builder, Memory>
+pub fn combined<O: Operation>(
+    alloc: Global,
+    a: &[u32],
+    b: &[u32],
+    groups: u32,
+) -> Result<Builder, Memory>
     requires left { All IsCountedFill a.now }
     requires right { All IsCountedFill b.now }
     requires same { length (groups_of a.now) ≡ length (groups_of b.now) }

@@ -26,12 +26,21 @@ fn wah_of_words(alloc: Global, words: &[u32], rows: u32) -> Result<Wah, Fail> {
 fn rows_have_these_words(rt: HostRuntime) -> Result<(), Fail> {
     for (runs, words) in [
         (&[][..], &[][..]),
-        (&[(false, 31), (true, 31)][..], &[0x8000_0001, 0xc000_0001][..]),
+        (
+            &[(false, 31), (true, 31)][..],
+            &[0x8000_0001, 0xc000_0001][..],
+        ),
         (&[(false, 32)][..], &[0x8000_0002][..]),
         (&[(true, 32)][..], &[0xc000_0001, 0x0000_0001][..]),
-        (&[(true, 1), (false, 30), (true, 1)][..], &[0x0000_0001, 0x0000_0001][..]),
+        (
+            &[(true, 1), (false, 30), (true, 1)][..],
+            &[0x0000_0001, 0x0000_0001][..],
+        ),
         (&[(true, 5)][..], &[0x0000_001f][..]),
-        (&[(true, 5), (false, 31)][..], &[0x0000_001f, 0x8000_0001][..]),
+        (
+            &[(true, 5), (false, 31)][..],
+            &[0x0000_001f, 0x8000_0001][..],
+        ),
     ] {
         let rows = rows_of_runs(rt.alloc(), runs)?;
         let wah = wah_of_rows(&rt, rt.alloc(), &rows)?;
@@ -70,10 +79,18 @@ fn other_words_are_refused(rt: HostRuntime) -> Result<(), Fail> {
 #[test]
 fn complements(rt: HostRuntime) -> Result<(), Fail> {
     for (words, rows, others) in [
-        (&[0x8000_0001, 0xc000_0001][..], 62, &[0xc000_0001, 0x8000_0001][..]),
+        (
+            &[0x8000_0001, 0xc000_0001][..],
+            62,
+            &[0xc000_0001, 0x8000_0001][..],
+        ),
         (&[0x8000_0001][..], 5, &[0x0000_001f][..]),
         (&[0x8000_0002][..], 32, &[0xc000_0001, 0x0000_0001][..]),
-        (&[0x8000_0001, 0x0000_001f][..], 36, &[0xc000_0001, 0x8000_0001][..]),
+        (
+            &[0x8000_0001, 0x0000_001f][..],
+            36,
+            &[0xc000_0001, 0x8000_0001][..],
+        ),
         (&[][..], 0, &[][..]),
     ] {
         let wah = wah_of_words(rt.alloc(), words, rows)?;
@@ -128,7 +145,43 @@ fn runs_are_joined(rt: HostRuntime) -> Result<(), Fail> {
     Ok(())
 }
 
-/// Rows in runs of one to forty, from a fixed generator.
+#[test]
+fn lists_are_extended(rt: HostRuntime) -> Result<(), Fail> {
+    for (words, rows, longer, extended) in [
+        (&[][..], 0, 0, &[][..]),
+        (&[][..], 0, 63, &[0x8000_0003][..]),
+        (&[0x0000_001f][..], 5, 31, &[0x0000_001f][..]),
+        (&[0x0000_001f][..], 5, 36, &[0x0000_001f, 0x8000_0001][..]),
+        (
+            &[0xc000_0001, 0x8000_0001][..],
+            40,
+            100,
+            &[0xc000_0001, 0x8000_0003][..],
+        ),
+    ] {
+        let wah = wah_of_words(rt.alloc(), words, rows)?;
+        assert_eq!(rt; wah.len(), rows);
+        let wah = wah.extended(rt.alloc(), longer)?;
+        assert_eq!(rt; wah.words(), extended);
+        assert_eq!(rt; wah.len(), longer);
+    }
+    Ok(())
+}
+
+#[test]
+fn places_are_true(rt: HostRuntime) -> Result<(), Fail> {
+    let none = Wah::from_places(rt.alloc(), &[], 0)?;
+    assert_eq!(rt; none.words(), [].as_slice());
+    let none = Wah::from_places(rt.alloc(), &[], 32)?;
+    assert_eq!(rt; none.words(), [0x8000_0002].as_slice());
+    let some = Wah::from_places(rt.alloc(), &[0, 31, 3968], 3969)?;
+    assert_eq!(rt; some.words(), [1, 1, 0x8000_007e, 1].as_slice());
+    let some = Wah::from_places(rt.alloc(), &[62, 63], 200)?;
+    assert_eq!(rt; some.words(), [0x8000_0002, 3, 0x8000_0004].as_slice());
+    Ok(())
+}
+
+/// Rows in runs of one to ninety, from a fixed generator.
 fn made_rows(alloc: Global, state: &mut u64, count: usize) -> Result<Vec<bool>, Memory> {
     let mut rows = Vec::new(alloc);
     let mut value = false;
@@ -139,7 +192,11 @@ fn made_rows(alloc: Global, state: &mut u64, count: usize) -> Result<Vec<bool>, 
                 .wrapping_mul(6_364_136_223_846_793_005)
                 .wrapping_add(1_442_695_040_888_963_407);
             let draw = *state >> 33;
-            left = if draw % 4 == 0 { draw / 4 % 97 } else { draw / 4 % 4 };
+            left = if draw % 4 == 0 {
+                draw / 4 % 97
+            } else {
+                draw / 4 % 4
+            };
             value = !value;
         } else {
             left -= 1;
@@ -155,9 +212,21 @@ fn as_on_plain_lists(rt: HostRuntime) -> Result<(), Fail> {
     for count in (0..131).chain(3960..3975) {
         let a = made_rows(rt.alloc(), &mut state, count)?;
         let b = made_rows(rt.alloc(), &mut state, count)?;
-        let both: Vec<bool> = a.iter().zip(b.iter()).map(|(x, y)| *x && *y).collect(rt.alloc())?;
-        let either: Vec<bool> = a.iter().zip(b.iter()).map(|(x, y)| *x || *y).collect(rt.alloc())?;
-        let one: Vec<bool> = a.iter().zip(b.iter()).map(|(x, y)| *x != *y).collect(rt.alloc())?;
+        let both: Vec<bool> = a
+            .iter()
+            .zip(b.iter())
+            .map(|(x, y)| *x && *y)
+            .collect(rt.alloc())?;
+        let either: Vec<bool> = a
+            .iter()
+            .zip(b.iter())
+            .map(|(x, y)| *x || *y)
+            .collect(rt.alloc())?;
+        let one: Vec<bool> = a
+            .iter()
+            .zip(b.iter())
+            .map(|(x, y)| *x != *y)
+            .collect(rt.alloc())?;
         let others: Vec<bool> = a.iter().map(|x| !*x).collect(rt.alloc())?;
         let left = wah_of_rows(&rt, rt.alloc(), &a)?;
         let right = wah_of_rows(&rt, rt.alloc(), &b)?;
@@ -165,10 +234,26 @@ fn as_on_plain_lists(rt: HostRuntime) -> Result<(), Fail> {
         let and = left.and(rt.alloc(), &right)?;
         let or = left.or(rt.alloc(), &right)?;
         let xor = left.xor(rt.alloc(), &right)?;
-        assert_eq!(rt; and.words(), wah_of_rows(&rt, rt.alloc(), &both)?.words(), "{count} rows");
-        assert_eq!(rt; or.words(), wah_of_rows(&rt, rt.alloc(), &either)?.words(), "{count} rows");
-        assert_eq!(rt; xor.words(), wah_of_rows(&rt, rt.alloc(), &one)?.words(), "{count} rows");
-        assert_eq!(rt; left.not(rt.alloc())?.words(), wah_of_rows(&rt, rt.alloc(), &others)?.words(), "{count} rows");
+        assert_eq!(rt;
+            and.words(),
+            wah_of_rows(&rt, rt.alloc(), &both)?.words(),
+            "{count} rows"
+        );
+        assert_eq!(rt;
+            or.words(),
+            wah_of_rows(&rt, rt.alloc(), &either)?.words(),
+            "{count} rows"
+        );
+        assert_eq!(rt;
+            xor.words(),
+            wah_of_rows(&rt, rt.alloc(), &one)?.words(),
+            "{count} rows"
+        );
+        assert_eq!(rt;
+            left.not(rt.alloc())?.words(),
+            wah_of_rows(&rt, rt.alloc(), &others)?.words(),
+            "{count} rows"
+        );
         assert_eq!(rt; left.count() as usize, a.iter().filter(|x| **x).count());
         let back = wah_of_words(rt.alloc(), left.words(), left.len())?;
         assert_eq!(rt; back.words(), left.words());

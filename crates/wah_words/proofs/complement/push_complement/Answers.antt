@@ -17,8 +17,9 @@ loop-word-preserved c =
     let w = get_or words i 0 in
     let turned : group_rows c.complement.result.group ≡ map not (group_rows (run_group w)) = rw c.of_word.ensures.group at c.complement.ensures.rows in
     let pushed : c.push_run.new.self ≡ c.loop-word.out ++ replicate (run_count w) c.complement.result.group =
-      c.in_ok-push_run.ensures.ok ∙ ap (λ n. c.loop-word.out ++ replicate n c.complement.result.group) (c.complement.ensures.count ∙ c.of_word.ensures.count) in
-    (ap rows_of pushed
-      ∙ turned_more c.loop-word.out (groups (take i words)) (rows_of c.args.out.now) (run_count w) c.complement.result.group (run_group w) c.loop-word.invariant.0 turned
-      ∙ ap (λ gs. rows_of c.args.out.now ++ map not (rows_of gs)) (sym (groups-take-more words i (omega arith))),
-      omega (arith, ap length pushed, length-append c.loop-word.out (replicate (run_count w) c.complement.result.group), length-replicate (run_count w) c.complement.result.group, length-groups-take-more words i (omega arith), c.loop-word.invariant.1))
+    c.in_ok-push_run.ensures.ok ∙ ap (λ n. c.loop-word.out ++ replicate n c.complement.result.group) (c.complement.ensures.count ∙ c.of_word.ensures.count) in (
+      ap rows_of pushed
+          ∙ turned_more c.loop-word.out (groups (take i words)) (rows_of c.args.out.now) (run_count w) c.complement.result.group (run_group w) c.loop-word.invariant.0 turned
+          ∙ ap (λ gs. rows_of c.args.out.now ++ map not (rows_of gs)) (sym (groups-take-more words i (omega arith))),
+      omega (arith, ap length pushed, length-append c.loop-word.out (replicate (run_count w) c.complement.result.group), length-replicate (run_count w) c.complement.result.group, length-groups-take-more words i (omega arith), c.loop-word.invariant.1),
+    )

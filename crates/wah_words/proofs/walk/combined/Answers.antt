@@ -27,11 +27,12 @@ loop-left-preserved g c =
     let left_rest = c.skip.ensures in
     let right_rest = c.skip-in-loop-left.ensures in
     let left_same = c.refill.ensures.same in
-    let right_same = c.refill-in-loop-left.ensures.same in
-    (rw (pushed, left_rest, right_rest)
-      (pointwise-step bit c.loop-left.out a b count r step
-      ∙ ap (λ gs. rows_of c.loop-left.out ++ pointwise bit (rows_of gs) (rows_of b)) left_same
-      ∙ ap (λ gs. rows_of c.loop-left.out ++ pointwise bit (rows_of (groups_left c.loop-left.left)) (rows_of gs)) right_same
-      ∙ c.loop-left.invariant.0),
+    let right_same = c.refill-in-loop-left.ensures.same in (
+      rw (pushed, left_rest, right_rest)
+          (pointwise-step bit c.loop-left.out a b count r step
+          ∙ ap (λ gs. rows_of c.loop-left.out ++ pointwise bit (rows_of gs) (rows_of b)) left_same
+          ∙ ap (λ gs. rows_of c.loop-left.out ++ pointwise bit (rows_of (groups_left c.loop-left.left)) (rows_of gs)) right_same
+          ∙ c.loop-left.invariant.0),
       omega (arith, ap length left_rest, ap length right_rest, length-drop count a, length-drop count b, ap length left_same, ap length right_same, c.loop-left.invariant.1),
-      omega (arith, ap length pushed, length-append c.loop-left.out (replicate count r), length-replicate count r, ap length left_rest, ap length step.left, length-append (replicate count left.run.group) (drop count a), length-replicate count left.run.group, ap length left_same, c.loop-left.invariant.2))
+      omega (arith, ap length pushed, length-append c.loop-left.out (replicate count r), length-replicate count r, ap length left_rest, ap length step.left, length-append (replicate count left.run.group) (drop count a), length-replicate count left.run.group, ap length left_same, c.loop-left.invariant.2),
+    )

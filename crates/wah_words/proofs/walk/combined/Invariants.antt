@@ -8,7 +8,7 @@ use Rattle.wah_words.proofs.walk.combined.Given as goal
 abbrev pub invariant-loop-left : goal.invariant-loop-left
 invariant-loop-left g l =
     (rows_of l.out ++ pointwise g.O.Operation.of_rows (rows_of (groups_left l.left)) (rows_of (groups_left l.right))
-      ≡ pointwise g.O.Operation.of_rows (rows_of (groups l.fn.a)) (rows_of (groups l.fn.b)))
+    ≡ pointwise g.O.Operation.of_rows (rows_of (groups l.fn.a)) (rows_of (groups l.fn.b)))
     × (length (groups_left l.left) ≡ length (groups_left l.right))
     × (length l.out + length (groups_left l.left) ≡ length (groups l.fn.a))
 

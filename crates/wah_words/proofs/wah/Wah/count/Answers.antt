@@ -13,19 +13,19 @@ prove-unreachable-requires c =
 pub overflow_mul-total : goal.overflow_mul-total
 overflow_mul-total c =
     let is : IsCounted c.deref-word-items.result.now c.loop-word.word-index c.loop-word.total c.of_word-run.result.group c.of_word-run.result.count =
-      record { within = omega arith; so_far = c.loop-word.invariant; group_is = c.of_word-run.ensures.group; count_is = c.of_word-run.ensures.count } in
+    record { within = omega arith; so_far = c.loop-word.invariant; group_is = c.of_word-run.ensures.group; count_is = c.of_word-run.ensures.count } in
     omega (arith, counted _ _ _ _ _ is, true_count-front c.self.inside.words.items c.deref-word-items.result.now c.self.inside.rows (c.loop-word.word-index + 1) c.self.invariant c.deref-word-items.ensures.value)
 
 pub overflow_add-total : goal.overflow_add-total
 overflow_add-total c =
     let is : IsCounted c.deref-word-items.result.now c.loop-word.word-index c.loop-word.total c.of_word-run.result.group c.of_word-run.result.count =
-      record { within = omega arith; so_far = c.loop-word.invariant; group_is = c.of_word-run.ensures.group; count_is = c.of_word-run.ensures.count } in
+    record { within = omega arith; so_far = c.loop-word.invariant; group_is = c.of_word-run.ensures.group; count_is = c.of_word-run.ensures.count } in
     omega (arith, counted _ _ _ _ _ is, true_count-front c.self.inside.words.items c.deref-word-items.result.now c.self.inside.rows (c.loop-word.word-index + 1) c.self.invariant c.deref-word-items.ensures.value)
 
 pub loop-word-preserved : goal.loop-word-preserved
 loop-word-preserved c =
     let is : IsCounted c.deref-word-items.result.now c.loop-word.word-index c.loop-word.total c.of_word-run.result.group c.of_word-run.result.count =
-      record { within = omega arith; so_far = c.loop-word.invariant; group_is = c.of_word-run.ensures.group; count_is = c.of_word-run.ensures.count } in
+    record { within = omega arith; so_far = c.loop-word.invariant; group_is = c.of_word-run.ensures.group; count_is = c.of_word-run.ensures.count } in
     counted _ _ _ _ _ is
 
 pub returns : goal.returns
