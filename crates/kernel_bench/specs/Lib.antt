@@ -1,0 +1,4 @@
+pub mod Checksum
+pub mod Kernel
+pub mod Mix
+pub mod Rounds

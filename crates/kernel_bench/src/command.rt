@@ -1,0 +1,46 @@
+//! The words of the command line.
+use crate::form::Form;
+use crate::kernel::Kernel;
+
+/// The words `KERNEL-FORM SEED SIZE ROUNDS`, read, and whether `--times` follows.
+#[derive(Drop)]
+pub struct Command {
+    pub kernel: Kernel,
+    pub form: Form,
+    pub seed: u64,
+    /// The rows of each input.
+    pub size: u32,
+    pub rounds: u32,
+    pub tells_times: bool,
+}
+
+impl Command {
+    /// Reads the words, or none where they are no command.
+    pub fn of_words(words: &[String]) -> Option<Command> {
+        match words {
+            [task, seed, size, rounds] => Command::of_parts(task, seed, size, rounds, false),
+            [task, seed, size, rounds, option] if option.as_str() == "--times" => {
+                Command::of_parts(task, seed, size, rounds, true)
+            }
+            _ => None,
+        }
+    }
+
+    fn of_parts(
+        task: &str,
+        seed: &str,
+        size: &str,
+        rounds: &str,
+        tells_times: bool,
+    ) -> Option<Command> {
+        let (kernel, form) = task.split_once('-')?;
+        Some(Command {
+            kernel: Kernel::of_name(kernel)?,
+            form: Form::of_name(form)?,
+            seed: seed.parse::<u64>().ok()?,
+            size: size.parse::<u32>().ok()?,
+            rounds: rounds.parse::<u32>().ok().filter(|rounds| *rounds > 0)?,
+            tells_times,
+        })
+    }
+}

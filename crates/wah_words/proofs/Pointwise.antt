@@ -1,0 +1,228 @@
+-- Operations on lists of truth values, and on the groups that hold them.
+use Rattle.std.proofs.Common.{◌≡◌, ◌≢◌, ℕ, zero, suc, ◌+◌, ◌-◌, ◌*◌, ◌/◌, ◌%◌, ◌^◌, ◌<◌, ◌≤◌, ◌∙◌, Bool, true, false, cond, not, eqb, List, [], ◌∷◌, ◌++◌, length, get_or, take, drop, replicate, map, refl, sym, ap, subst, arith, zero-add, take-add}
+use Rattle.std.specs.Prelude.{All, ◌&&◌, ◌||◌, bit_and, bit_or, bit_xor}
+use Rattle.std.specs.List.{zip}
+use Rattle.std.proofs.lemmas.Nat.{and_shr, or_shr, xor_shr, and_mod, or_mod, xor_mod}
+use Rattle.std.proofs.lemmas.List.{append_assoc, length-append, length-replicate, length-take-le, map-append, length-map, replicate_more, replicate-append-replicate, take_at, drop_at}
+use Rattle.std.proofs.lemmas.List.Concat.{flat_map-append}
+use Rattle.std.proofs.lemmas.List.Elements.{All-replicate, All-nil, All-cons, All-head, All-tail}
+use Rattle.wah_words.specs.Group.{low_bits, group_rows, rows_of, group_count}
+use Rattle.wah_words.specs.Rows.{pointwise, differs, cleared}
+use Rattle.wah_words.proofs.Bits.{length-low_bits, low_bits-ones}
+use Rattle.wah_words.proofs.Spelled.{length-group_rows, length-rows_of, rows_of-push}
+
+-- an operation on numbers that works bit by bit
+pub record IsBitwise (word : ℕ → ℕ → ℕ) (bit : Bool → Bool → Bool) : Type 0 where
+  pub low : (a b : ℕ) → eqb (word a b % 2) 1 ≡ bit (eqb (a % 2) 1) (eqb (b % 2) 1)
+  pub high : (a b : ℕ) → word a b / 2 ≡ word (a / 2) (b / 2)
+
+low_bits-bitwise : (word : ℕ → ℕ → ℕ) (bit : Bool → Bool → Bool) → IsBitwise word bit → (count a b : ℕ) → low_bits count (word a b) ≡ pointwise bit (low_bits count a) (low_bits count b)
+unfolding low_bits
+low_bits-bitwise word bit is zero a b = refl
+low_bits-bitwise word bit is (suc count) a b =
+    rw (is.low a b, is.high a b) (ap (λ rest. bit (eqb (a % 2) 1) (eqb (b % 2) 1) ∷ rest) (low_bits-bitwise word bit is count (a / 2) (b / 2)))
+
+pub group_rows-bitwise : (word : ℕ → ℕ → ℕ) (bit : Bool → Bool → Bool) → IsBitwise word bit → (a b : ℕ) → group_rows (word a b) ≡ pointwise bit (group_rows a) (group_rows b)
+unfolding group_rows
+group_rows-bitwise word bit is a b = low_bits-bitwise word bit is 31 a b
+
+-- the tables of the three operations
+and_table : (m n : ℕ) → m < 2 → n < 2 → eqb (bit_and m n) 1 ≡ eqb m 1 && eqb n 1
+and_table zero n m_bit n_bit = refl
+and_table (suc zero) zero m_bit n_bit = refl
+and_table (suc zero) (suc zero) m_bit n_bit = refl
+and_table (suc zero) (suc (suc n)) m_bit n_bit = absurd (omega arith)
+and_table (suc (suc m)) n m_bit n_bit = absurd (omega arith)
+
+or_table : (m n : ℕ) → m < 2 → n < 2 → eqb (bit_or m n) 1 ≡ eqb m 1 || eqb n 1
+or_table zero zero m_bit n_bit = refl
+or_table zero (suc zero) m_bit n_bit = refl
+or_table zero (suc (suc n)) m_bit n_bit = absurd (omega arith)
+or_table (suc zero) zero m_bit n_bit = refl
+or_table (suc zero) (suc zero) m_bit n_bit = refl
+or_table (suc zero) (suc (suc n)) m_bit n_bit = absurd (omega arith)
+or_table (suc (suc m)) n m_bit n_bit = absurd (omega arith)
+
+xor_table : (m n : ℕ) → m < 2 → n < 2 → eqb (bit_xor m n) 1 ≡ differs (eqb m 1) (eqb n 1)
+xor_table zero zero m_bit n_bit = refl
+xor_table zero (suc zero) m_bit n_bit = refl
+xor_table zero (suc (suc n)) m_bit n_bit = absurd (omega arith)
+xor_table (suc zero) zero m_bit n_bit = refl
+xor_table (suc zero) (suc zero) m_bit n_bit = refl
+xor_table (suc zero) (suc (suc n)) m_bit n_bit = absurd (omega arith)
+xor_table (suc (suc m)) n m_bit n_bit = absurd (omega arith)
+
+pub and_is_bitwise : IsBitwise bit_and ◌&&◌
+and_is_bitwise = record {
+  low = λ a b. ap (λ bit. eqb bit 1) (and_mod a b 1) ∙ and_table (a % 2) (b % 2) (omega arith) (omega arith);
+  high = λ a b. and_shr a b 1;
+}
+
+pub or_is_bitwise : IsBitwise bit_or ◌||◌
+or_is_bitwise = record {
+  low = λ a b. ap (λ bit. eqb bit 1) (or_mod a b 1) ∙ or_table (a % 2) (b % 2) (omega arith) (omega arith);
+  high = λ a b. or_shr a b 1;
+}
+
+pub xor_is_bitwise : IsBitwise bit_xor differs
+xor_is_bitwise = record {
+  low = λ a b. ap (λ bit. eqb bit 1) (xor_mod a b 1) ∙ xor_table (a % 2) (b % 2) (omega arith) (omega arith);
+  high = λ a b. xor_shr a b 1;
+}
+
+-- lists side by side
+pub pointwise-append : (bit : Bool → Bool → Bool) (a b c d : List Bool) → length a ≡ length b → pointwise bit (a ++ c) (b ++ d) ≡ pointwise bit a b ++ pointwise bit c d
+pointwise-append bit [] [] c d same = refl
+pointwise-append bit [] (y ∷ b) c d same = absurd (omega arith)
+pointwise-append bit (x ∷ a) [] c d same = absurd (omega arith)
+pointwise-append bit (x ∷ a) (y ∷ b) c d same = ap (λ rest. bit x y ∷ rest) (pointwise-append bit a b c d (omega arith))
+
+pub take-pointwise : (bit : Bool → Bool → Bool) (n : ℕ) (a b : List Bool) → take n (pointwise bit a b) ≡ pointwise bit (take n a) (take n b)
+take-pointwise bit zero a b = refl
+take-pointwise bit (suc n) [] b = refl
+take-pointwise bit (suc n) (x ∷ a) [] = refl
+take-pointwise bit (suc n) (x ∷ a) (y ∷ b) = ap (λ rest. bit x y ∷ rest) (take-pointwise bit n a b)
+
+pub drop-pointwise : (bit : Bool → Bool → Bool) (n : ℕ) (a b : List Bool) → length a ≡ length b → drop n (pointwise bit a b) ≡ pointwise bit (drop n a) (drop n b)
+drop-pointwise bit zero a b same = refl
+drop-pointwise bit (suc n) [] [] same = refl
+drop-pointwise bit (suc n) [] (y ∷ b) same = absurd (omega arith)
+drop-pointwise bit (suc n) (x ∷ a) [] same = absurd (omega arith)
+drop-pointwise bit (suc n) (x ∷ a) (y ∷ b) same = drop-pointwise bit n a b (omega arith)
+
+group_rows-ones : group_rows 2147483647 ≡ replicate 31 true
+unfolding group_rows
+group_rows-ones = low_bits-ones 31
+
+-- a list is the complement of the list that differs from it everywhere
+pub pointwise-differs_ones : (list : List Bool) → pointwise differs (replicate (length list) true) list ≡ map not list
+pointwise-differs_ones [] = refl
+pointwise-differs_ones (row ∷ list) = ap (λ rest. not row ∷ rest) (pointwise-differs_ones list)
+
+pub group_rows-complement : (group : ℕ) → group_rows (bit_xor 2147483647 group) ≡ map not (group_rows group)
+group_rows-complement group =
+    group_rows-bitwise bit_xor differs xor_is_bitwise 2147483647 group
+    ∙ ap (λ ones. pointwise differs ones (group_rows group)) (group_rows-ones ∙ ap (λ n. replicate n true) (sym (length-group_rows group)))
+    ∙ pointwise-differs_ones (group_rows group)
+
+-- a run turned
+pub rows_of-turned : (count turned group : ℕ) → group_rows turned ≡ map not (group_rows group) → rows_of (replicate count turned) ≡ map not (rows_of (replicate count group))
+rows_of-turned zero turned group is = refl
+rows_of-turned (suc count) turned group is =
+    ap (λ rows. rows ++ rows_of (replicate count turned)) is
+    ∙ ap (λ rest. map not (group_rows group) ++ rest) (rows_of-turned count turned group is)
+    ∙ sym (map-append not (group_rows group) (rows_of (replicate count group)))
+
+-- a run more
+pub turned_more : (out gs : List ℕ) (start : List Bool) (count turned group : ℕ) → rows_of out ≡ start ++ map not (rows_of gs) → group_rows turned ≡ map not (group_rows group) → rows_of (out ++ replicate count turned) ≡ start ++ map not (rows_of (gs ++ replicate count group))
+turned_more out gs start count turned group so_far is =
+    flat_map-append group_rows out (replicate count turned)
+    ∙ ap (λ front. front ++ rows_of (replicate count turned)) so_far
+    ∙ ap (λ last. start ++ map not (rows_of gs) ++ last) (rows_of-turned count turned group is)
+    ∙ append_assoc start (map not (rows_of gs)) (map not (rows_of (replicate count group)))
+    ∙ ap (λ rest. start ++ rest) (sym (map-append not (rows_of gs) (rows_of (replicate count group))))
+    ∙ ap (λ rows. start ++ map not rows) (sym (flat_map-append group_rows gs (replicate count group)))
+
+-- a list cleared from a row on
+cleared-append : (rows : ℕ) (a b : List Bool) → length a ≤ rows → cleared rows (a ++ b) ≡ a ++ cleared (rows - length a) b
+cleared-append rows a b within =
+    let parts : rows ≡ length a + (rows - length a) = omega arith in
+    let kept : take rows (a ++ b) ≡ a ++ take (rows - length a) b =
+    ap (λ n. take n (a ++ b)) parts
+    ∙ take-add (length a) (rows - length a) (a ++ b)
+    ∙ ap (λ front. front ++ take (rows - length a) (drop (length a) (a ++ b))) (take_at a b (length a) refl)
+    ∙ ap (λ rest. a ++ take (rows - length a) rest) (drop_at a b (length a) refl) in
+    let padding : length (a ++ b) - rows ≡ length b - (rows - length a) = omega (arith, length-append a b) in
+    ap (λ front. front ++ replicate (length (a ++ b) - rows) false) kept
+    ∙ append_assoc a (take (rows - length a) b) (replicate (length (a ++ b) - rows) false)
+    ∙ ap (λ n. a ++ (take (rows - length a) b ++ replicate n false)) padding
+
+pub take-cleared : (rows : ℕ) (list : List Bool) → rows ≤ length list → take rows (cleared rows list) ≡ take rows list
+take-cleared rows list within = take_at (take rows list) (replicate (length list - rows) false) rows (length-take-le rows list within)
+
+pub drop-cleared : (rows : ℕ) (list : List Bool) → rows ≤ length list → All (λ row. row ≡ false) (drop rows (cleared rows list))
+drop-cleared rows list within =
+    rw (drop_at (take rows list) (replicate (length list - rows) false) rows (length-take-le rows list within)) (All-replicate (λ row. row ≡ false) (length list - rows) false refl)
+
+pub length-cleared : (rows : ℕ) (list : List Bool) → rows ≤ length list → length (cleared rows list) ≡ length list
+length-cleared rows list within =
+    omega (arith, length-append (take rows list) (replicate (length list - rows) false), length-take-le rows list within, length-replicate (length list - rows) false)
+
+-- the last group of a run cleared from a row on
+pub rows_of-last_cleared : (out : List ℕ) (count g last rows : ℕ) → 1 ≤ count → 0 < rows → length out + count ≡ group_count rows → group_rows last ≡ cleared ((rows - 1) % 31 + 1) (group_rows g) → rows_of (out ++ replicate (count - 1) g ++ last ∷ []) ≡ cleared rows (rows_of out ++ rows_of (replicate count g))
+rows_of-last_cleared out count g last rows some there size is =
+    let front = out ++ replicate (count - 1) g in
+    let long : length front + 1 ≡ group_count rows = omega (arith, length-append out (replicate (count - 1) g), length-replicate (count - 1) g) in
+    let before : (rows - 1) % 31 + 1 ≡ rows - length (rows_of front) = omega (arith, length-rows_of front) in
+    let within : length (rows_of front) ≤ rows = omega (arith, length-rows_of front) in
+    let one_more : count - 1 + 1 ≡ count = omega arith in
+    let whole : rows_of front ++ group_rows g ≡ rows_of out ++ rows_of (replicate count g) =
+    sym (rows_of-push front g)
+    ∙ ap rows_of (append_assoc out (replicate (count - 1) g) (g ∷ []) ∙ ap (λ run. out ++ run) (replicate_more (count - 1) g ∙ ap (λ n. replicate n g) one_more))
+    ∙ flat_map-append group_rows out (replicate count g) in
+    rows_of-push front last
+    ∙ ap (λ end. rows_of front ++ end) (is ∙ ap (λ n. cleared n (group_rows g)) before)
+    ∙ sym (cleared-append rows (rows_of front) (group_rows g) within)
+    ∙ ap (cleared rows) whole
+
+-- groups that are others turned are as many
+pub length-turned : (out gs : List ℕ) → rows_of out ≡ map not (rows_of gs) → length out ≡ length gs
+length-turned out gs is = omega (arith, length-rows_of out, length-rows_of gs, ap length is, length-map (rows_of gs) not)
+
+-- a run on each side
+pub rows_of-combined : (bit : Bool → Bool → Bool) (count a b r : ℕ) → group_rows r ≡ pointwise bit (group_rows a) (group_rows b) → rows_of (replicate count r) ≡ pointwise bit (rows_of (replicate count a)) (rows_of (replicate count b))
+rows_of-combined bit zero a b r is = refl
+rows_of-combined bit (suc count) a b r is =
+    ap (λ rows. rows ++ rows_of (replicate count r)) is
+    ∙ ap (λ rest. pointwise bit (group_rows a) (group_rows b) ++ rest) (rows_of-combined bit count a b r is)
+    ∙ sym (pointwise-append bit (group_rows a) (group_rows b) (rows_of (replicate count a)) (rows_of (replicate count b)) (length-group_rows a ∙ sym (length-group_rows b)))
+
+-- a front of a run apart
+pub front_run : (gs rest : List ℕ) (group whole count : ℕ) → count ≤ whole → gs ≡ replicate whole group ++ rest → gs ≡ replicate count group ++ drop count gs
+front_run gs rest group whole count within is =
+    let parts : count + (whole - count) ≡ whole = omega arith in
+    let split : gs ≡ replicate count group ++ (replicate (whole - count) group ++ rest) =
+    is
+    ∙ ap (λ n. replicate n group ++ rest) (sym parts)
+    ∙ ap (λ run. run ++ rest) (sym (replicate-append-replicate count (whole - count) group))
+    ∙ append_assoc (replicate count group) (replicate (whole - count) group) rest in
+    split ∙ ap (λ after. replicate count group ++ after) (sym (ap (drop count) split ∙ drop_at (replicate count group) (replicate (whole - count) group ++ rest) count (length-replicate count group)))
+
+-- two lists that begin with runs, and what the operation makes of the runs
+pub record IsStep (bit : Bool → Bool → Bool) (a b : List ℕ) (count r : ℕ) : Type 0 where
+  pub left_group : ℕ
+  pub right_group : ℕ
+  pub left : a ≡ replicate count left_group ++ drop count a
+  pub right : b ≡ replicate count right_group ++ drop count b
+  pub rows : group_rows r ≡ pointwise bit (group_rows left_group) (group_rows right_group)
+
+pub pointwise-step : (bit : Bool → Bool → Bool) (out a b : List ℕ) (count r : ℕ) → IsStep bit a b count r → rows_of (out ++ replicate count r) ++ pointwise bit (rows_of (drop count a)) (rows_of (drop count b)) ≡ rows_of out ++ pointwise bit (rows_of a) (rows_of b)
+pointwise-step bit out a b count r is =
+    let left = rows_of (replicate count is.left_group) in
+    let right = rows_of (replicate count is.right_group) in
+    let long : length left ≡ length right =
+    omega (arith, length-rows_of (replicate count is.left_group), length-rows_of (replicate count is.right_group), length-replicate count is.left_group, length-replicate count is.right_group) in
+    let both : pointwise bit (rows_of a) (rows_of b) ≡ pointwise bit left right ++ pointwise bit (rows_of (drop count a)) (rows_of (drop count b)) =
+    ap (λ gs. pointwise bit (rows_of gs) (rows_of b)) is.left
+    ∙ ap (λ gs. pointwise bit (rows_of (replicate count is.left_group ++ drop count a)) (rows_of gs)) is.right
+    ∙ ap (λ rows. pointwise bit rows (rows_of (replicate count is.right_group ++ drop count b))) (flat_map-append group_rows (replicate count is.left_group) (drop count a))
+    ∙ ap (λ rows. pointwise bit (left ++ rows_of (drop count a)) rows) (flat_map-append group_rows (replicate count is.right_group) (drop count b))
+    ∙ pointwise-append bit left right (rows_of (drop count a)) (rows_of (drop count b)) long in
+    let rest = pointwise bit (rows_of (drop count a)) (rows_of (drop count b)) in
+    ap (λ rows. rows ++ rest) (flat_map-append group_rows out (replicate count r) ∙ ap (λ last. rows_of out ++ last) (rows_of-combined bit count is.left_group is.right_group r is.rows))
+    ∙ append_assoc (rows_of out) (pointwise bit left right) rest
+    ∙ ap (λ rows. rows_of out ++ rows) (sym both)
+
+pub length-pointwise : (bit : Bool → Bool → Bool) (a b : List Bool) → length a ≡ length b → length (pointwise bit a b) ≡ length a
+length-pointwise bit [] b same = refl
+length-pointwise bit (x ∷ a) [] same = absurd (omega arith)
+length-pointwise bit (x ∷ a) (y ∷ b) same = ap suc (length-pointwise bit a b (omega arith))
+
+-- false beside false makes false
+pub All-pointwise : (bit : Bool → Bool → Bool) (a b : List Bool) → bit false false ≡ false → All (λ row. row ≡ false) a → All (λ row. row ≡ false) b → All (λ row. row ≡ false) (pointwise bit a b)
+All-pointwise bit [] b is each_a each_b = All-nil (λ row. row ≡ false)
+All-pointwise bit (x ∷ a) [] is each_a each_b = All-nil (λ row. row ≡ false)
+All-pointwise bit (x ∷ a) (y ∷ b) is each_a each_b =
+    let here : bit x y ≡ false = rw (All-head (λ row. row ≡ false) x a each_a, All-head (λ row. row ≡ false) y b each_b) is in
+    All-cons (λ row. row ≡ false) (bit x y) (pointwise bit a b) here
+    (All-pointwise bit a b is (All-tail (λ row. row ≡ false) x a each_a) (All-tail (λ row. row ≡ false) y b each_b))

@@ -1,0 +1,34 @@
+-- A group is 31 rows side by side, as a number below 2 ^ 31 whose lowest bit is the first row.
+use Rattle.std.specs.Prelude.{ℕ, zero, suc, ◌+◌, ◌-◌, ◌/◌, ◌%◌, ◌^◌, ◌≡◌, ◌==◌, ◌||◌, IsTrue, Bool, List, [], ◌∷◌, ◌++◌, ◌<◌, false, replicate, if◌then◌else◌}
+use Rattle.std.specs.List.{flat_map}
+
+-- the lowest bits of a number, as many as are wanted, from the lowest
+unfoldable pub low_bits : ℕ → ℕ → List Bool
+low_bits zero n = []
+low_bits (suc count) n = (n % 2 == 1) ∷ low_bits count (n / 2)
+
+-- the rows of a group
+unfoldable pub group_rows : ℕ → List Bool
+group_rows group = low_bits 31 group
+
+-- the rows of groups, one after another
+abbrev pub rows_of : List ℕ → List Bool
+rows_of groups = flat_map group_rows groups
+
+-- how many groups it takes to hold that many rows
+abbrev pub group_count : ℕ → ℕ
+group_count rows = (rows + 30) / 31
+
+-- the group whose rows all have the value
+abbrev pub filled : Bool → ℕ
+filled value = if value then 2 ^ 31 - 1 else 0
+
+-- all rows of the group have one value
+abbrev pub IsUniform : ℕ → Type 0
+IsUniform group = IsTrue (group == 0 || group == 2 ^ 31 - 1)
+
+-- the groups hold the rows, with false in what is left of the last group
+pub record Holds (groups : List ℕ) (rows : List Bool) : Type 0 where
+  pub padding : ℕ
+  pub few : padding < 31
+  pub is : rows_of groups ≡ rows ++ replicate padding false

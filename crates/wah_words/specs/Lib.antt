@@ -1,0 +1,5 @@
+pub mod Canonical
+pub mod Cursor
+pub mod Group
+pub mod Rows
+pub mod Word

@@ -1,0 +1,124 @@
+//! The one writer of words.
+ghost use Rattle.std.specs.Prelude.{ℕ, ◌≡◌, ◌<◌, ◌≤◌, ◌+◌, ◌-◌, ◌^◌, [], ◌∷◌, ◌++◌, length, replicate, IfOk, OnOk, OnErr};
+ghost use Rattle.wah_words.specs.Group.{filled};
+ghost use Rattle.wah_words.specs.Word.{groups};
+ghost use Rattle.wah_words.specs.Canonical.{AreRuns};
+
+use crate::Memory;
+use crate::run::{ALL_TRUE, Run, fill_word, joins};
+use std::alloc::Global;
+use std::marker::Model;
+
+/// Words in the making; contracts see the groups that they stand for.
+#[derive(Drop)]
+pub struct Builder {
+    words: Vec<u32>,
+}
+
+impl Model for Builder {
+    ghost use Rattle.std.specs.Prelude.{List, ℕ};
+
+    ghost Value = { List ℕ };
+
+    ghost use Rattle.wah_words.specs.Word.{groups};
+    ghost use Rattle.wah_words.specs.Canonical.{AreRuns};
+
+    ghost view = { λ b. groups b.words.items };
+
+    ghost invariant = { λ b. AreRuns b.words.items };
+}
+
+impl Builder {
+    /// No groups yet, with room for that many words.
+    pub fn with_capacity(alloc: Global, words: usize) -> Result<Builder, Memory>
+        ensures { IfOk result (λ builder. builder ≡ []) }
+    {
+        Ok(Builder {
+            words: Vec::with_capacity(alloc, words)?,
+        })
+    }
+
+    /// The groups of words, with room for one word more.
+    pub fn from_slice(alloc: Global, words: &[u32]) -> Result<Builder, Memory>
+        requires { AreRuns words.now }
+        ensures { IfOk result (λ builder. builder ≡ groups words.now) }
+    {
+        let mut copy = Vec::with_capacity(alloc, words.len() + 1)?;
+        copy.extend_from_slice(words)?;
+        Ok(Builder { words: copy })
+    }
+
+    /// Puts a group at the end whose rows differ.
+    fn push_literal(&mut self, group: u32) -> Result<(), Memory>
+        requires some_true { 0 < group }
+        requires some_false { group < 2 ^ 31 - 1 }
+        ensures ok { OnOk result (self.new ≡ self.old ++ group ∷ []) }
+        ensures err { OnErr result (self.new ≡ self.old) }
+    {
+        self.words.push(group)?;
+        Ok(())
+    }
+
+    /// Puts so many groups at the end whose rows all have the value.
+    pub fn push_fill(&mut self, value: bool, count: u32) -> Result<(), Memory>
+        requires some { 1 ≤ count }
+        requires room { length self.old + count < 2 ^ 30 }
+        ensures ok { OnOk result (self.new ≡ self.old ++ replicate count (filled value)) }
+        ensures err { OnErr result (self.new ≡ self.old) }
+    {
+        let word = fill_word(value, count);
+        // A fill of the same value grows in its place.
+        if let Some(last) = self.words.last_mut() {
+            if joins(*last, word) {
+                *last += count;
+                return Ok(());
+            }
+        }
+        self.words.push(word)?;
+        Ok(())
+    }
+
+    /// Puts so many groups of false rows at the end, or none.
+    pub fn push_false(&mut self, count: u32) -> Result<(), Memory>
+        requires { length self.old + count < 2 ^ 30 }
+        ensures ok { OnOk result (self.new ≡ self.old ++ replicate count 0) }
+        ensures err { OnErr result (self.new ≡ self.old) }
+    {
+        if count == 0 {
+            return Ok(());
+        }
+        self.push_fill(false, count)
+    }
+
+    /// Puts a run at the end.
+    pub fn push_run(&mut self, run: Run) -> Result<(), Memory>
+        requires some { 1 ≤ run.count }
+        requires room { length self.old + run.count < 2 ^ 30 }
+        ensures ok { OnOk result (self.new ≡ self.old ++ replicate run.count run.group) }
+        ensures err { OnErr result (self.new ≡ self.old) }
+    {
+        match run.group {
+            0 => self.push_fill(false, run.count),
+            ALL_TRUE => self.push_fill(true, run.count),
+            group => self.push_literal(group),
+        }
+    }
+
+    /// Puts one group at the end.
+    pub fn push_group(&mut self, group: u32) -> Result<(), Memory>
+        requires within { group < 2 ^ 31 }
+        requires room { length self.old + 1 < 2 ^ 30 }
+        ensures ok { OnOk result (self.new ≡ self.old ++ group ∷ []) }
+        ensures err { OnErr result (self.new ≡ self.old) }
+    {
+        self.push_run(Run { group, count: 1 })
+    }
+
+    /// The words.
+    pub fn into_words(self) -> Vec<u32>
+        ensures runs { AreRuns result.items }
+        ensures groups { groups result.items ≡ self }
+    {
+        self.words
+    }
+}

@@ -1,0 +1,57 @@
+//! Words with each row turned.
+ghost use Rattle.std.specs.Prelude.{◌≡◌, ◌<◌, ◌≤◌, ◌+◌, ◌^◌, ◌++◌, All, IfOk, OnOk, not, length, map, replicate};
+ghost use Rattle.wah_words.specs.Group.{group_count, rows_of};
+ghost use Rattle.wah_words.specs.Word.{groups, run_count, run_group};
+ghost use Rattle.wah_words.specs.Rows.{cleared};
+ghost use Rattle.wah_words.specs.Canonical.{IsCanonical, IsCountedFill};
+
+use crate::Memory;
+use crate::builder::Builder;
+use crate::run::{Run, first_rows};
+use std::alloc::Global;
+
+/// The groups of words with each row turned, and false past the last row.
+pub fn complement(alloc: Global, words: &[u32], rows: u32) -> Result<Builder, Memory>
+    requires { IsCanonical words.now rows }
+    ensures { IfOk result (λ out. rows_of out ≡ cleared rows (map not (rows_of (groups words.now)))) }
+{
+    // The last word alone may become two.
+    let mut out = Builder::with_capacity(alloc, words.len() + 1)?;
+    let Some((last, front)) = words.split_last() else {
+        return Ok(out);
+    };
+    push_complement(&mut out, front)?;
+    push_last_complement(&mut out, *last, rows)?;
+    Ok(out)
+}
+
+/// Puts the groups of words at the end with each row turned.
+fn push_complement(out: &mut Builder, words: &[u32]) -> Result<(), Memory>
+    requires fills { All IsCountedFill words.now }
+    requires room { length out.old + length (groups words.now) < 2 ^ 30 }
+    ensures { OnOk result (rows_of out.new ≡ rows_of out.old ++ map not (rows_of (groups words.now))) }
+{
+    for word in words {
+        out.push_run(Run::of_word(*word).complement())?;
+    }
+    Ok(())
+}
+
+/// Puts the groups of the last word at the end with each row turned, and false past the last row.
+fn push_last_complement(out: &mut Builder, last: u32, rows: u32) -> Result<(), Memory>
+    requires some { 0 < rows }
+    requires fill { IsCountedFill last }
+    requires size { length out.old + run_count last ≡ group_count rows }
+    ensures { OnOk result (rows_of out.new
+        ≡ cleared rows (rows_of out.old ++ map not (rows_of (replicate (run_count last) (run_group last))))) }
+{
+    let run = Run::of_word(last).complement();
+    if run.count > 1 {
+        out.push_run(Run {
+            group: run.group,
+            count: run.count - 1,
+        })?;
+    }
+    out.push_group(first_rows(run.group, (rows - 1) % 31 + 1))?;
+    Ok(())
+}

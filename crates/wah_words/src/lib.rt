@@ -1,0 +1,13 @@
+//! Bitvectors in the word-aligned hybrid code: 31 rows to a 32-bit word, and runs of equal rows counted.
+#![tactic(auto)]
+
+mod builder;
+mod complement;
+mod operation;
+mod places;
+mod run;
+mod wah;
+mod walk;
+
+pub use std::alloc::AllocError as Memory;
+pub use wah::Wah;

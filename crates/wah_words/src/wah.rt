@@ -1,0 +1,192 @@
+//! Bitvectors.
+ghost use Rattle.std.specs.Prelude.{ℕ, Bool, List, ◌≡◌, ◌<◌, ◌≤◌, ◌^◌, [], ◌∷◌, ◌++◌, ◌&&◌, ◌||◌, false, not, length, map, take, drop, replicate, slice_index_or, ◌-◌, All, Contains, ◌↔◌, IsTrue, IfOk, IfSome, IsSome};
+ghost use Rattle.std.specs.List.Sorted.{IsStrictlyIncreasing};
+ghost use Rattle.wah_words.specs.Group.{Holds, group_count as groups_for, rows_of};
+ghost use Rattle.wah_words.specs.Canonical.{AreWords, IsCanonical, Spells};
+ghost use Rattle.wah_words.specs.Rows.{differs, pointwise, true_count};
+
+use crate::builder::Builder;
+use crate::complement::complement;
+use crate::operation::{And, Operation, Or, Xor};
+use crate::places::groups_of_places;
+use crate::run::{Run, group_count, group_of, is_canonical};
+use crate::{Memory, walk};
+use std::alloc::Global;
+use std::marker::Model;
+
+/// A list of truth values as run-length words; contracts see the list.
+#[derive(Drop)]
+pub struct Wah {
+    words: Vec<u32>,
+    rows: u32,
+}
+
+impl Model for Wah {
+    ghost use Rattle.std.specs.Prelude.{List, Bool};
+
+    ghost Value = { List Bool };
+
+    ghost use Rattle.wah_words.specs.Canonical.{IsCanonical, spelled_rows};
+
+    ghost view = { λ w. spelled_rows w.words.items w.rows };
+
+    ghost invariant = { λ w. IsCanonical w.words.items w.rows };
+}
+
+impl Wah {
+    /// The list of these truth values, at most 4,294,967,295.
+    pub fn from_rows(alloc: Global, rows: &[bool]) -> Result<Wah, Memory>
+        requires { length rows.now < 2 ^ 32 }
+        ensures { IfOk result (λ wah. wah ≡ rows.now) }
+    {
+        let groups = Wah::groups_of(alloc, rows)?;
+        Ok(Wah::of_groups(groups, rows.len() as u32))
+    }
+
+    /// The list of so many rows that is true at these places alone.
+    pub fn from_places(alloc: Global, places: &[u32], rows: u32) -> Result<Wah, Memory>
+        requires rising { IsStrictlyIncreasing places.now }
+        requires below { All (λ place. place < rows) places.now }
+        ensures length { IfOk result (λ wah. length wah ≡ rows) }
+        ensures places { IfOk result (λ wah. (row : ℕ) →
+            IsTrue (slice_index_or wah row false) ↔ Contains places.now row) }
+    {
+        let groups = groups_of_places(alloc, places, rows)?;
+        Ok(Wah::of_groups(groups, rows))
+    }
+
+    /// The bitvector of these words, or none where they are not in the canonical form for so many rows.
+    /// It takes no memory.
+    pub fn from_words(words: Vec<u32>, rows: u32) -> Option<Wah>
+        ensures canonical { IsSome result ↔ IsCanonical words.items rows }
+        ensures list { IfSome result (λ wah. Spells words.items wah) }
+        ensures rows { IfSome result (λ wah. length wah ≡ rows) }
+    {
+        if !is_canonical(&words, rows) {
+            return None;
+        }
+        Some(Wah { words, rows })
+    }
+
+    /// The groups of these truth values.
+    fn groups_of(alloc: Global, rows: &[bool]) -> Result<Builder, Memory>
+        requires { length rows.now < 2 ^ 32 }
+        ensures { IfOk result (λ groups. Holds groups rows.now) }
+    {
+        let mut out = Builder::with_capacity(alloc, rows.len().div_ceil(31))?;
+        let whole = rows.len() / 31;
+        for i in 0..whole {
+            out.push_group(group_of(&rows[31 * i..31 * i + 31]))?;
+        }
+        let rest = &rows[31 * whole..];
+        if rest.is_empty() {
+            return Ok(out);
+        }
+        out.push_group(group_of(rest))?;
+        Ok(out)
+    }
+
+    /// True where both lists are true.
+    pub fn and(&self, alloc: Global, other: &Wah) -> Result<Wah, Memory>
+        requires { length self.now ≡ length other.now }
+        ensures { IfOk result (λ wah. wah ≡ pointwise ◌&&◌ self.now other.now) }
+    {
+        self.combined::<And>(alloc, other)
+    }
+
+    /// True where one list is true, or both.
+    pub fn or(&self, alloc: Global, other: &Wah) -> Result<Wah, Memory>
+        requires { length self.now ≡ length other.now }
+        ensures { IfOk result (λ wah. wah ≡ pointwise ◌||◌ self.now other.now) }
+    {
+        self.combined::<Or>(alloc, other)
+    }
+
+    /// True where one list is true and the other is not.
+    pub fn xor(&self, alloc: Global, other: &Wah) -> Result<Wah, Memory>
+        requires { length self.now ≡ length other.now }
+        ensures { IfOk result (λ wah. wah ≡ pointwise differs self.now other.now) }
+    {
+        self.combined::<Xor>(alloc, other)
+    }
+
+    /// What the operation makes of each two rows at one place.
+    fn combined<O: Operation>(&self, alloc: Global, other: &Wah) -> Result<Wah, Memory>
+        requires lengths { length self.now ≡ length other.now }
+        requires padding { O.of_rows false false ≡ false }
+        ensures { IfOk result (λ wah. wah ≡ pointwise O.of_rows self.now other.now) }
+    {
+        let groups = walk::combined::<O>(alloc, &self.words, &other.words, group_count(self.rows))?;
+        Ok(Wah::of_groups(groups, self.rows))
+    }
+
+    /// True where the list is false, and false where it is true.
+    pub fn not(&self, alloc: Global) -> Result<Wah, Memory>
+        ensures { IfOk result (λ wah. wah ≡ map not self.now) }
+    {
+        let groups = complement(alloc, &self.words, self.rows)?;
+        Ok(Wah::of_groups(groups, self.rows))
+    }
+
+    /// The list, and false after it up to so many rows.
+    pub fn extended(&self, alloc: Global, rows: u32) -> Result<Wah, Memory>
+        requires { length self.now ≤ rows }
+        ensures { IfOk result (λ wah. wah ≡ self.now ++ replicate (rows - length self.now) false) }
+    {
+        let more = group_count(rows) - group_count(self.rows);
+        let mut groups = Builder::from_slice(alloc, &self.words)?;
+        groups.push_false(more)?;
+        Ok(Wah::of_groups(groups, rows))
+    }
+
+    /// The first rows of groups that have no true row after them.
+    fn of_groups(groups: Builder, rows: u32) -> Wah
+        requires size { length groups ≡ groups_for rows }
+        requires padding { All (λ row. row ≡ false) (drop rows (rows_of groups)) }
+        ensures { result ≡ take rows (rows_of groups) }
+    {
+        Wah {
+            words: groups.into_words(),
+            rows,
+        }
+    }
+
+    /// The number of rows.
+    pub fn len(&self) -> u32
+        ensures { result ≡ length self.now }
+    {
+        self.rows
+    }
+
+    /// The words that spell the list.
+    pub fn words(&self) -> &[u32]
+        ensures { Spells result.now self.now }
+    {
+        &self.words
+    }
+
+    /// How many rows are true.
+    pub fn count(&self) -> u32
+        ensures { result ≡ true_count self.now }
+    {
+        let mut total = 0;
+        for word in &self.words {
+            prove!(total <= self.rows);
+            let run = Run::of_word(*word);
+            total += run.group.count_ones() * run.count;
+        }
+        total
+    }
+}
+
+/// The law of the form: words of 32 bits that spell one list are the same words, and words spell one list
+/// of a length alone.
+pub fn one_spelling()
+    ensures words { (a b : List ℕ) (list : List Bool) → AreWords a → AreWords b →
+        Spells a list → Spells b list → a ≡ b }
+    ensures list { (words : List ℕ) (a b : List Bool) → length a ≡ length b →
+        Spells words a → Spells words b → a ≡ b }
+{}
+
+#[cfg(test)]
+mod tests;
