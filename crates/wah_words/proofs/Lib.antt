@@ -1,4 +1,5 @@
 pub mod Bits
+pub mod Groups
 pub mod Marks
 pub mod Pointwise
 pub mod Reading

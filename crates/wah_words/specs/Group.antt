@@ -1,6 +1,7 @@
 -- A group is 31 rows side by side, as a number below 2 ^ 31 whose lowest bit is the first row.
-use Rattle.std.specs.Prelude.{ℕ, zero, suc, ◌+◌, ◌-◌, ◌/◌, ◌%◌, ◌^◌, ◌≡◌, ◌==◌, ◌||◌, IsTrue, Bool, List, [], ◌∷◌, ◌++◌, ◌<◌, false, replicate, if◌then◌else◌}
+use Rattle.std.specs.Prelude.{ℕ, zero, suc, ◌+◌, ◌-◌, ◌*◌, ◌/◌, ◌%◌, ◌^◌, ◌≡◌, ◌==◌, ◌||◌, IsTrue, Bool, List, [], ◌∷◌, ◌++◌, ◌<◌, false, take, drop, replicate, if◌then◌else◌}
 use Rattle.std.specs.List.{flat_map}
+use lib.Lanes.{mask_l}
 
 -- the lowest bits of a number, as many as are wanted, from the lowest
 unfoldable pub low_bits : ℕ → ℕ → List Bool
@@ -14,6 +15,11 @@ group_rows group = low_bits 31 group
 -- the rows of groups, one after another
 abbrev pub rows_of : List ℕ → List Bool
 rows_of groups = flat_map group_rows groups
+
+-- group k of a list, as the number whose lowest bit is its first row: the 31 rows from 31 * k on, false for
+-- those past the end. So it is 0 where there are none.
+abbrev pub group_at : List Bool → ℕ → ℕ
+group_at list k = mask_l (take 31 (drop (31 * k) list))
 
 -- how many groups it takes to hold that many rows
 abbrev pub group_count : ℕ → ℕ

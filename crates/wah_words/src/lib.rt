@@ -9,5 +9,6 @@ mod run;
 mod wah;
 mod walk;
 
+pub use run::Run;
 pub use std::alloc::AllocError as Memory;
-pub use wah::Wah;
+pub use wah::{Wah, one_spelling};

@@ -26,6 +26,7 @@ impl Run {
     pub fn of_word(word: u32) -> Run
         ensures group { result.group ≡ run_group word }
         ensures count { result.count ≡ run_count word }
+        ensures few { result.count < 2 ^ 30 }
     {
         if word < FALSE_FILL {
             return Run {

@@ -1,7 +1,8 @@
 //! Bitvectors.
-ghost use Rattle.std.specs.Prelude.{ℕ, Bool, List, ◌≡◌, ◌<◌, ◌≤◌, ◌^◌, [], ◌∷◌, ◌++◌, ◌&&◌, ◌||◌, false, not, length, map, take, drop, replicate, slice_index_or, ◌-◌, All, Contains, ◌↔◌, IsTrue, IfOk, IfSome, IsSome};
+ghost use Rattle.std.specs.Prelude.{ℕ, Bool, List, ◌≡◌, ◌<◌, ◌≤◌, ◌^◌, [], ◌∷◌, ◌++◌, ◌&&◌, ◌||◌, false, not, length, map, take, drop, replicate, slice_index, slice_index_or, ◌-◌, All, Contains, ◌↔◌, IsTrue, IfOk, IfSome, IsSome};
 ghost use Rattle.std.specs.List.Sorted.{IsStrictlyIncreasing};
-ghost use Rattle.wah_words.specs.Group.{Holds, group_count as groups_for, rows_of};
+ghost use Rattle.wah_words.specs.Group.{Holds, group_at, group_count as groups_for, rows_of};
+ghost use Rattle.wah_words.specs.Word.{groups as groups_of};
 ghost use Rattle.wah_words.specs.Canonical.{AreWords, IsCanonical, Spells};
 ghost use Rattle.wah_words.specs.Rows.{differs, pointwise, true_count};
 
@@ -158,9 +159,10 @@ impl Wah {
         self.rows
     }
 
-    /// The words that spell the list.
+    /// The words that spell the list, whose groups are those of the list.
     pub fn words(&self) -> &[u32]
-        ensures { Spells result.now self.now }
+        ensures spelling { Spells result.now self.now }
+        ensures each_group { (k : ℕ) → slice_index (groups_of result.now) k ≡ group_at self.now k }
     {
         &self.words
     }
