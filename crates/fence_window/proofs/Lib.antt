@@ -1,0 +1,3 @@
+pub mod Fences
+pub mod Places
+pub mod Windows

@@ -1,0 +1,97 @@
+//! Bitvectors with a fence for each page.
+ghost use Rattle.std.specs.Prelude.{◌≡◌, ◌<◌, IfOk, length, slice_get};
+ghost use Rattle.fence_window.specs.Place.{HasFences};
+ghost use Rattle.fence_window.specs.Window.{IsWindow};
+
+use crate::Memory;
+use crate::place::{Place, advanced, write_groups};
+use std::alloc::Global;
+use std::marker::Model;
+use wah_words::{Run, Wah, one_spelling};
+
+/// The groups of a page, of 31 rows each.
+const PAGE_GROUPS: u32 = 128;
+/// The rows of a page.
+const PAGE_ROWS: u32 = 3_968;
+
+/// A bitvector whose pages are reached without a walk from its first word; contracts see its list.
+#[derive(Drop)]
+pub struct Fenced {
+    wah: Wah,
+    fences: Vec<Place>,
+}
+
+impl Model for Fenced {
+    ghost use Rattle.std.specs.Prelude.{List, Bool};
+
+    ghost Value = { List Bool };
+
+    ghost use Rattle.fence_window.specs.Place.{HasFences};
+
+    ghost view = { λ f. f.wah };
+
+    ghost invariant = { λ f. HasFences f.wah f.fences.items };
+}
+
+impl Fenced {
+    /// The bitvector, with its fences.
+    pub fn make(alloc: Global, wah: Wah) -> Result<Fenced, Memory>
+        ensures { IfOk result (λ fenced. fenced ≡ wah) }
+    {
+        let fences = fences_of(alloc, &wah)?;
+        Ok(Fenced { wah, fences })
+    }
+
+    /// The bitvector.
+    pub fn wah(&self) -> &Wah
+        ensures { result.now ≡ self.now }
+    {
+        &self.wah
+    }
+
+    /// Writes the groups of a page, and 0 where there are none. It takes no memory.
+    pub fn window(&self, page: u32, out: &mut [u32; 128])
+        ensures { IsWindow self.now page out.new }
+    {
+        let words = self.wah.words();
+        match self.fences.get(page as usize) {
+            Some(fence) => write_groups(words, *fence, out),
+            None => out.fill(0),
+        }
+    }
+
+    /// The truth value of a row. It takes no memory, and reads the words of one page at most.
+    pub fn get(&self, row: u32) -> bool
+        requires { row < length self.now }
+        ensures { slice_get self.now row ≡ Some result }
+    {
+        let group = row / 31;
+        let words = self.wah.words();
+        let fence = self.fences[(group / PAGE_GROUPS) as usize];
+        let place = advanced(words, fence, group % PAGE_GROUPS);
+        (Run::of_word(words[place.word]).group >> (row % 31)) & 1 == 1
+    }
+}
+
+/// The place at which each page begins.
+fn fences_of(alloc: Global, wah: &Wah) -> Result<Vec<Place>, Memory>
+    ensures { IfOk result (λ fences. HasFences wah.now fences.items) }
+{
+    // The fences are those of whatever words spell the list, since no others do.
+    one_spelling();
+    let words = wah.words();
+    let pages = wah.len().div_ceil(PAGE_ROWS);
+    let mut fences = Vec::with_capacity(alloc, pages as usize)?;
+    let mut place = Place {
+        word: 0,
+        skipped: 0,
+    };
+    for _page in 0..pages {
+        fences.push(place)?;
+        place = advanced(words, place, PAGE_GROUPS);
+    }
+    Ok(fences)
+}
+
+#[cfg(test)]
+mod tests;

@@ -1,0 +1,118 @@
+use super::*;
+use std::process::Abort;
+use std::test::Fail;
+
+/// The bitvector of these words, fenced.
+fn fenced_of(alloc: Global, words: &[u32], rows: u32) -> Result<Fenced, Fail> {
+    let wah = Wah::from_words(words.to_vec(alloc)?, rows).ok_or("not canonical")?;
+    Ok(Fenced::make(alloc, wah)?)
+}
+
+/// The groups of a page, given as runs of one group, are what `window` writes.
+fn has_window(rt: &impl Abort, fenced: &Fenced, page: u32, runs: &[(u32, usize)]) {
+    let mut out = [0x5555_5555; 128];
+    fenced.window(page, &mut out);
+    let mut groups = out.iter();
+    for (group, count) in runs {
+        for _ in 0..*count {
+            assert_eq!(rt; groups.next(), Some(group), "page {page}");
+        }
+    }
+    for group in groups {
+        assert_eq!(rt; *group, 0, "page {page}");
+    }
+}
+
+#[test]
+fn one_row_of_a_second_page(rt: HostRuntime) -> Result<(), Fail> {
+    for (words, group) in [
+        (&[0xc000_0080, 0x0000_0001][..], 0x7fff_ffff),
+        (&[0x8000_0080, 0x0000_0001][..], 0),
+    ] {
+        let fenced = fenced_of(rt.alloc(), words, 3_969)?;
+        has_window(&rt, &fenced, 0, &[(group, 128)]);
+        has_window(&rt, &fenced, 1, &[(1, 1)]);
+        has_window(&rt, &fenced, 2, &[]);
+        assert_eq!(rt; fenced.wah().words(), words);
+    }
+    Ok(())
+}
+
+#[test]
+fn runs_across_pages(rt: HostRuntime) -> Result<(), Fail> {
+    // A run that ends in page 0, one that goes on into page 1, one that covers pages 2 and 3, and the rest.
+    let words = [
+        0x8000_0064,
+        0xc000_0032,
+        0x0000_0005,
+        0x8000_0069,
+        0xc000_0120,
+        0x0000_0003,
+    ];
+    let fenced = fenced_of(rt.alloc(), &words, 545 * 31)?;
+    has_window(&rt, &fenced, 0, &[(0, 100), (0x7fff_ffff, 28)]);
+    has_window(&rt, &fenced, 1, &[(0x7fff_ffff, 22), (5, 1)]);
+    has_window(&rt, &fenced, 2, &[(0x7fff_ffff, 128)]);
+    has_window(&rt, &fenced, 3, &[(0x7fff_ffff, 128)]);
+    has_window(&rt, &fenced, 4, &[(0x7fff_ffff, 32), (3, 1)]);
+    has_window(&rt, &fenced, 5, &[]);
+    Ok(())
+}
+
+#[test]
+fn rows_through_the_fences(rt: HostRuntime) -> Result<(), Fail> {
+    // Rows 0, 31, 62 to 92, 3,967 and 3,968 are true.
+    let words = [
+        0x0000_0001,
+        0x0000_0001,
+        0xc000_0001,
+        0x8000_007c,
+        0x4000_0000,
+        0x0000_0001,
+    ];
+    let fenced = fenced_of(rt.alloc(), &words, 3_969)?;
+    for (row, value) in [
+        (0, true),
+        (1, false),
+        (30, false),
+        (31, true),
+        (32, false),
+        (61, false),
+        (62, true),
+        (92, true),
+        (93, false),
+        (3_966, false),
+        (3_967, true),
+        (3_968, true),
+    ] {
+        assert!(rt; row < fenced.wah().len());
+        assert!(rt; fenced.get(row) == value, "row {row}");
+    }
+    Ok(())
+}
+
+#[test]
+fn pages_past_the_end(rt: HostRuntime) -> Result<(), Fail> {
+    for (words, rows) in [
+        (&[][..], 0),
+        (&[0x0000_0001][..], 1),
+        (&[0xc000_0080][..], 3_968),
+    ] {
+        let fenced = fenced_of(rt.alloc(), words, rows)?;
+        for page in [1, 33_554_432, 67_108_864, 4_294_967_295] {
+            has_window(&rt, &fenced, page, &[]);
+        }
+    }
+    Ok(())
+}
+
+#[test]
+fn the_longest_list(rt: HostRuntime) -> Result<(), Fail> {
+    let fenced = fenced_of(rt.alloc(), &[0xc842_1084, 0x0000_0007], 4_294_967_295)?;
+    has_window(&rt, &fenced, 0, &[(0x7fff_ffff, 128)]);
+    has_window(&rt, &fenced, 1_082_401, &[(0x7fff_ffff, 4), (7, 1)]);
+    has_window(&rt, &fenced, 1_082_402, &[]);
+    assert!(rt; 4_294_967_294 < fenced.wah().len());
+    assert!(rt; fenced.get(4_294_967_294));
+    Ok(())
+}

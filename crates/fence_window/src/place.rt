@@ -1,0 +1,57 @@
+//! Places in words.
+ghost use Rattle.std.specs.Prelude.{ℕ, ◌≡◌, ◌+◌, ◌<◌, ◌≤◌, ◌^◌, drop, slice_index};
+ghost use Rattle.wah_words.specs.Word.{run_count};
+ghost use Rattle.fence_window.specs.Place.{groups_from};
+
+use wah_words::Run;
+
+/// A word, and how many groups of its run lie before the place.
+#[derive(Clone, Copy)]
+pub struct Place {
+    pub word: usize,
+    pub skipped: u32,
+}
+
+/// The place so many groups further on, or the end of the words.
+pub fn advanced(words: &[u32], place: Place, groups: u32) -> Place
+    requires { place.skipped + groups < 2 ^ 32 }
+    ensures rest { groups_from words.now result ≡ drop groups (groups_from words.now place) }
+    ensures inside { result.skipped < run_count (slice_index words.now result.word) }
+    ensures few { result.skipped < 2 ^ 30 }
+{
+    let mut left = place.skipped + groups;
+    for word in place.word..words.len() {
+        let count = Run::of_word(words[word]).count;
+        if left < count {
+            return Place {
+                word,
+                skipped: left,
+            };
+        }
+        left -= count;
+    }
+    Place {
+        word: words.len(),
+        skipped: 0,
+    }
+}
+
+/// Writes the groups from a place on, and 0 after the last.
+pub fn write_groups(words: &[u32], place: Place, out: &mut [u32; 128])
+    requires { place.skipped ≤ run_count (slice_index words.now place.word) }
+    ensures { (i : ℕ) → i < 128 → slice_index out.new i ≡ slice_index (groups_from words.now place) i }
+{
+    let mut skipped = place.skipped;
+    let mut at = 0;
+    for word in place.word..words.len() {
+        let run = Run::of_word(words[word]);
+        let end = (at + (run.count - skipped) as usize).min(128);
+        out[at..end].fill(run.group);
+        if end == 128 {
+            return;
+        }
+        at = end;
+        skipped = 0;
+    }
+    out[at..].fill(0);
+}
