@@ -1,8 +1,8 @@
 -- Groups from a place on, run by run.
 use Rattle.std.proofs.Common.{◌≡◌, ℕ, ◌+◌, ◌-◌, ◌<◌, ◌≤◌, ◌∙◌, List, [], ◌∷◌, ◌++◌, length, get_or, take, drop, replicate, refl, sym, ap, arith, inl, inr}
-use Rattle.std.proofs.lemmas.List.{drop-drop, drop_at, drop_all, drop_more, length-drop, length-replicate, length-take-le, replicate-append-replicate, append_assoc, take-append-le, take-replicate, get_or-take, get_or-drop, get_or_append_left, get_or-replicate, get_or_past}
+use Rattle.std.proofs.lemmas.List.{drop-drop, drop_at, take_at, length-append, drop_all, drop_more, length-drop, length-replicate, length-take-le, replicate-append-replicate, append_assoc, take-append-le, take-replicate, get_or-take, get_or-drop, get_or_append_left, get_or-replicate, get_or_past}
 use Rattle.std.proofs.Math.Seq.{take-add, drop-nil}
-use Rattle.std.proofs.lemmas.Slice.{take-put_mid, take-put_mid_below}
+use Rattle.std.proofs.lemmas.Slice.{take-put_mid_below}
 use Rattle.std.proofs.lemmas.Bool.{cases_lt}
 use borrow.Rule.Slice.PartMut.{put_mid, post_of}
 use Rattle.wah_words.specs.Word.{groups, run_group, run_count, word_groups}
@@ -42,19 +42,20 @@ pub record IsWriting (all out new : List ℕ) (at end count g : ℕ) (rest : Lis
   pub of_run : end - at ≤ count
   pub written : take at out ≡ take at all
   pub left : drop at all ≡ replicate count g ++ rest
-  pub new_is : new ≡ replicate (end - at) g
+  pub new_is : new ≡ take at out ++ replicate (end - at) g ++ drop end out
 
-pub written_more : (all out new : List ℕ) (at end count g : ℕ) (rest : List ℕ) → IsWriting all out new at end count g rest → take end (put_mid at (end - at) out new) ≡ take end all
+pub written_more : (all out new : List ℕ) (at end count g : ℕ) (rest : List ℕ) → IsWriting all out new at end count g rest → take end new ≡ take end all
 written_more all out new at end count g rest is =
-    let long : length new ≡ end - at = ap length is.new_is ∙ length-replicate (end - at) g in
+    let run = replicate (end - at) g in
     let parts : at + (end - at) ≡ end = omega arith in
-    let next : take (end - at) (drop at all) ≡ new =
+    let next : take (end - at) (drop at all) ≡ run =
     ap (take (end - at)) is.left
     ∙ take-append-le (end - at) (replicate count g) rest (omega (arith, length-replicate count g))
-    ∙ take-replicate (end - at) count g is.of_run
-    ∙ sym is.new_is in
-    take-put_mid at (end - at) out new end (omega arith) (omega arith)
-    ∙ ap (λ front. front ++ new) is.written
+    ∙ take-replicate (end - at) count g is.of_run in
+    let long : length (take at out ++ run) ≡ end = omega (arith, length-append (take at out) run, length-take-le at out (omega arith), length-replicate (end - at) g) in
+    ap (take end) is.new_is
+    ∙ take_at (take at out ++ run) (drop end out) end long
+    ∙ ap (λ front. front ++ run) is.written
     ∙ ap (λ back. take at all ++ back) (sym next)
     ∙ sym (take-add at (end - at) all)
     ∙ ap (λ n. take n all) parts

@@ -9,6 +9,6 @@ mod run;
 mod wah;
 mod walk;
 
-pub use run::Run;
+pub use run::{Run, is_literal};
 pub use std::alloc::AllocError as Memory;
 pub use wah::{Wah, one_spelling};

@@ -28,7 +28,7 @@ impl Run {
         ensures count { result.count ≡ run_count word }
         ensures few { result.count < 2 ^ 30 }
     {
-        if word < FALSE_FILL {
+        if is_literal(word) {
             return Run {
                 group: word,
                 count: 1,
@@ -51,6 +51,13 @@ impl Run {
             count: self.count,
         }
     }
+}
+
+/// Whether a word is one group as it stands.
+pub fn is_literal(word: u32) -> bool
+    ensures { IsTrue result ↔ word < 2 ^ 31 }
+{
+    word < FALSE_FILL
 }
 
 /// The fill that counts so many groups of rows with the value.
@@ -93,7 +100,7 @@ pub fn group_of(rows: &[bool]) -> u32
 fn is_proper(word: u32) -> bool
     ensures { IsTrue result ↔ (IsMixedLiteral word × IsCountedFill word) }
 {
-    if word < FALSE_FILL {
+    if is_literal(word) {
         0 < word && word < ALL_TRUE
     } else {
         Run::of_word(word).count != 0
@@ -104,7 +111,7 @@ fn is_proper(word: u32) -> bool
 pub fn joins(previous: u32, word: u32) -> bool
     ensures { IsTrue result ↔ ((2 ^ 31 ≤ previous) × (2 ^ 31 ≤ word) × (run_group previous ≡ run_group word)) }
 {
-    previous >= FALSE_FILL && previous >> 30 == word >> 30
+    !is_literal(previous) && previous >> 30 == word >> 30
 }
 
 /// Whether the words are in the canonical form for so many rows.
