@@ -6,6 +6,7 @@
  * kernels KERNEL-FORM SEED SIZE ROUNDS [--times]
  */
 #include <algorithm>
+#include <array>
 #include <charconv>
 #include <chrono>
 #include <cstdint>
@@ -144,6 +145,124 @@ static uint32_t true_count(const Bitvector &a)
     return total;
 }
 
+/*
+ * A bitvector with a fence for each page of 128 groups: where in the words the
+ * page begins, and how many groups of that word's run lie before it.
+ */
+constexpr uint32_t PAGE_GROUPS = 128, PAGE_ROWS = PAGE_GROUPS * GROUP_ROWS;
+using Page = std::array<uint32_t, PAGE_GROUPS>;
+
+static uint32_t pages_for(uint32_t rows)
+{
+    return rows / PAGE_ROWS + (rows % PAGE_ROWS != 0);
+}
+
+class Fenced {
+public:
+    Bitvector bitvector;
+
+    explicit Fenced(Bitvector made) : bitvector(std::move(made))
+    {
+        uint32_t pages = pages_for(bitvector.rows);
+        fences.reserve(pages);
+        Place place = { 0, 0 };
+        for (uint32_t page = 0; page < pages; page++) {
+            fences.push_back(place);
+            place = next_page(place);
+        }
+    }
+
+    /* Writes the groups of a page, and 0 where there are none. */
+    void window(uint32_t page, Page &out) const
+    {
+        uint32_t at = 0;
+        if (page < fences.size()) {
+            uint32_t skipped = fences[page].skipped;
+            for (size_t i = fences[page].word; i < bitvector.words.size() && at < PAGE_GROUPS; i++) {
+                uint32_t word = bitvector.words[i];
+                if (word < FALSE_FILL) {
+                    out[at++] = word;
+                    continue;
+                }
+                Run run = run_of(word);
+                uint32_t end = std::min(at + (run.count - skipped), PAGE_GROUPS);
+                std::fill(out.begin() + at, out.begin() + end, run.group);
+                at = end;
+                skipped = 0;
+            }
+        }
+        std::fill(out.begin() + at, out.end(), 0);
+    }
+
+private:
+    struct Place {
+        size_t word;
+        uint32_t skipped;
+    };
+    std::vector<Place> fences;
+
+    Place next_page(Place place) const
+    {
+        uint32_t left = place.skipped + PAGE_GROUPS;
+        for (; place.word < bitvector.words.size(); place.word++) {
+            uint32_t count = run_of(bitvector.words[place.word]).count;
+            if (left < count)
+                return { place.word, left };
+            left -= count;
+        }
+        return { place.word, 0 };
+    }
+};
+
+/* The exclusive or of all groups, read page by page. */
+static uint32_t xor_of(const Fenced &a)
+{
+    uint32_t xor_so_far = 0;
+    Page page;
+    for (uint32_t number = 0; number < pages_for(a.bitvector.rows); number++) {
+        a.window(number, page);
+        for (uint32_t group : page)
+            xor_so_far ^= group;
+    }
+    return xor_so_far;
+}
+
+static void or_windows(const Fenced *bins, size_t count, uint32_t number, Page &page)
+{
+    Page window;
+    page.fill(0);
+    for (size_t bin = 0; bin < count; bin++) {
+        bins[bin].window(number, window);
+        for (uint32_t i = 0; i < PAGE_GROUPS; i++)
+            page[i] |= window[i];
+    }
+}
+
+static void and_into(Page &page, const Page &other)
+{
+    for (uint32_t i = 0; i < PAGE_GROUPS; i++)
+        page[i] &= other[i];
+}
+
+/* How many rows are true in a bin of each of three columns. */
+constexpr size_t QUANTITIES = 23, MONTHS = 12, DISCOUNTS = 3;
+
+static uint64_t selected(const Fenced *bins)
+{
+    uint64_t total = 0;
+    Page page, other;
+    for (uint32_t number = 0; number < pages_for(bins[0].bitvector.rows); number++) {
+        or_windows(bins, QUANTITIES, number, page);
+        or_windows(bins + QUANTITIES, MONTHS, number, other);
+        and_into(page, other);
+        or_windows(bins + QUANTITIES + MONTHS, DISCOUNTS, number, other);
+        and_into(page, other);
+        for (uint32_t group : page)
+            total += uint64_t(__builtin_popcount(group));
+    }
+    return total;
+}
+
 /* The generator SplitMix64. */
 class Draws {
 public:
@@ -234,7 +353,7 @@ static Bitvector next_bitvector(Rows &rows, uint32_t size)
 struct Checksum {
     uint64_t words = 0, mix = 0;
 
-    void add(uint32_t word)
+    void add(uint64_t word)
     {
         uint64_t product = (mix ^ word) * 0x9e3779b97f4a7c15;
         mix = product ^ product >> 32;
@@ -269,21 +388,41 @@ static void run_round(Kernel kernel, Checksum &checksum, Times &times)
     checksum.add(outcome);
 }
 
-enum class Kernel { AND, OR, XOR, NOT, COUNT };
+enum class Kernel { AND, OR, XOR, NOT, COUNT, WINDOW, SELECT };
 
-static void run_kernel(Kernel kernel, const Bitvector &a, const Bitvector &b, Checksum &checksum, Times &times)
+static size_t input_count(Kernel kernel)
 {
     switch (kernel) {
     case Kernel::AND:
-        return run_round([&] { return combined(a, b, [](uint32_t x, uint32_t y) { return x & y; }); }, checksum, times);
     case Kernel::OR:
-        return run_round([&] { return combined(a, b, [](uint32_t x, uint32_t y) { return x | y; }); }, checksum, times);
     case Kernel::XOR:
-        return run_round([&] { return combined(a, b, [](uint32_t x, uint32_t y) { return x ^ y; }); }, checksum, times);
+        return 2;
+    case Kernel::SELECT:
+        return QUANTITIES + MONTHS + DISCOUNTS;
+    default:
+        return 1;
+    }
+}
+
+static void run_kernel(Kernel kernel, const Fenced *inputs, Checksum &checksum, Times &times)
+{
+    const Bitvector &a = inputs[0].bitvector;
+    auto run = [&](auto kernel) { run_round(kernel, checksum, times); };
+    switch (kernel) {
+    case Kernel::AND:
+        return run([&] { return combined(a, inputs[1].bitvector, [](uint32_t x, uint32_t y) { return x & y; }); });
+    case Kernel::OR:
+        return run([&] { return combined(a, inputs[1].bitvector, [](uint32_t x, uint32_t y) { return x | y; }); });
+    case Kernel::XOR:
+        return run([&] { return combined(a, inputs[1].bitvector, [](uint32_t x, uint32_t y) { return x ^ y; }); });
     case Kernel::NOT:
-        return run_round([&] { return complement(a); }, checksum, times);
+        return run([&] { return complement(a); });
     case Kernel::COUNT:
-        return run_round([&] { return true_count(a); }, checksum, times);
+        return run([&] { return true_count(a); });
+    case Kernel::WINDOW:
+        return run([&] { return xor_of(inputs[0]); });
+    case Kernel::SELECT:
+        return run([&] { return selected(inputs); });
     }
 }
 
@@ -327,7 +466,8 @@ int main(int count, char **words)
     if (hyphen == task.npos)
         usage();
     Kernel kernel = named<Kernel>(task.substr(0, hyphen), { { "and", Kernel::AND }, { "or", Kernel::OR },
-        { "xor", Kernel::XOR }, { "not", Kernel::NOT }, { "count", Kernel::COUNT } });
+        { "xor", Kernel::XOR }, { "not", Kernel::NOT }, { "count", Kernel::COUNT }, { "window", Kernel::WINDOW },
+        { "select", Kernel::SELECT } });
     Form form = named<Form>(task.substr(hyphen + 1), { { "dense", Form::DENSE }, { "sparse", Form::SPARSE },
         { "clustered", Form::CLUSTERED }, { "mixed", Form::MIXED } });
     uint64_t seed = number_of<uint64_t>(words[2]);
@@ -336,13 +476,14 @@ int main(int count, char **words)
         usage();
 
     Rows rows(form, seed);
-    const Bitvector first = next_bitvector(rows, size), second = next_bitvector(rows, size);
+    std::vector<Fenced> inputs;
+    for (size_t made = 0; made <= input_count(kernel); made++)
+        inputs.emplace_back(next_bitvector(rows, size));
     Checksum checksum;
     Times times;
     for (uint32_t round = 0; round < rounds; round++) {
-        /* The checksum chooses the order, so that no round can be foretold from the one before. */
-        bool turned = checksum.mix & 1;
-        run_kernel(kernel, turned ? second : first, turned ? first : second, checksum, times);
+        /* The checksum chooses the inputs, so that no round can be foretold from the one before. */
+        run_kernel(kernel, inputs.data() + checksum.mix % 2, checksum, times);
     }
     printf("words=%llu mix=%016llx\n", (unsigned long long)checksum.words, (unsigned long long)checksum.mix);
     if (tells_times)

@@ -1,4 +1,5 @@
 pub mod Checksum
 pub mod Kernel
 pub mod Mix
+pub mod Pages
 pub mod Rounds

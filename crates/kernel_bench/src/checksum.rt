@@ -1,5 +1,5 @@
 //! The checksum.
-ghost use Rattle.std.specs.Prelude.{◌≡◌};
+ghost use Rattle.std.specs.Prelude.{◌≡◌, [], ◌∷◌};
 ghost use Rattle.kernel_bench.specs.Checksum.{Adds, AddsWords};
 ghost use Rattle.kernel_bench.specs.Mix.{stirred};
 
@@ -27,8 +27,15 @@ impl Checksum {
     {
         match outcome {
             Outcome::List(list) => self.add_words(list.words()),
-            Outcome::Number(number) => self.add_words(&[*number]),
+            Outcome::Number(number) => self.add_number(*number),
         }
+    }
+
+    fn add_number(&mut self, number: u64)
+        ensures { AddsWords self.old self.new (number ∷ []) }
+    {
+        self.words = self.words.wrapping_add(1);
+        self.mix = stir(self.mix, number);
     }
 
     fn add_words(&mut self, words: &[u32])
@@ -37,7 +44,7 @@ impl Checksum {
         self.words = self.words.wrapping_add(words.len() as u64);
         let mut mix = self.mix;
         for word in words {
-            mix = stir(mix, *word);
+            mix = stir(mix, u64::from(*word));
         }
         self.mix = mix;
     }
@@ -50,9 +57,9 @@ impl fmt::Display for Checksum {
 }
 
 /// The mix with one word more.
-fn stir(mix: u64, word: u32) -> u64
+fn stir(mix: u64, word: u64) -> u64
     ensures { result ≡ stirred mix word }
 {
-    let product = (mix ^ u64::from(word)).wrapping_mul(0x9e37_79b9_7f4a_7c15);
+    let product = (mix ^ word).wrapping_mul(0x9e37_79b9_7f4a_7c15);
     product ^ (product >> 32)
 }

@@ -1,9 +1,20 @@
 //! The kernels.
-ghost use Rattle.std.specs.Prelude.{◌≡◌, IfOk, length};
-ghost use Rattle.kernel_bench.specs.Kernel.{Makes};
+ghost use Rattle.std.specs.Prelude.{◌≡◌, IfOk, length, take, drop};
+ghost use Rattle.kernel_bench.specs.Pages.{IsSelected};
+ghost use Rattle.fence_window.specs.Window.{page_count};
+ghost use Rattle.kernel_bench.specs.Kernel.{AreOfLength, Makes, input_count, list_at};
 
+use crate::pages::{selected, xor_of};
+use fence_window::Fenced;
 use std::alloc::Global;
 use wah_words::{Memory, Wah};
+
+/// The bins that a query reads of a column.
+const QUANTITIES: usize = 23;
+
+const MONTHS: usize = 12;
+
+const DISCOUNTS: usize = 3;
 
 /// An operation to measure.
 #[derive(Clone, Copy)]
@@ -13,13 +24,17 @@ pub enum Kernel {
     Xor,
     Not,
     Count,
+    /// All groups, page by page.
+    Window,
+    /// The rows that a query selects, page by page: those that a bin of each of three columns has.
+    Select,
 }
 
 /// What a kernel made.
 #[derive(Drop)]
 pub enum Outcome {
     List(Wah),
-    Number(u32),
+    Number(u64),
 }
 
 impl Kernel {
@@ -30,21 +45,48 @@ impl Kernel {
             "xor" => Some(Kernel::Xor),
             "not" => Some(Kernel::Not),
             "count" => Some(Kernel::Count),
+            "window" => Some(Kernel::Window),
+            "select" => Some(Kernel::Select),
             _ => None,
         }
     }
 
-    /// What the kernel makes of two bitvectors, or of the first alone.
-    pub fn outcome(self, alloc: Global, a: &Wah, b: &Wah) -> Result<Outcome, Memory>
-        requires { length a.now ≡ length b.now }
-        ensures { IfOk result (Makes self a.now b.now) }
+    /// How many bitvectors it reads.
+    pub fn input_count(self) -> usize
+        ensures { result ≡ input_count self }
     {
+        match self {
+            Kernel::And | Kernel::Or | Kernel::Xor => 2,
+            Kernel::Not | Kernel::Count | Kernel::Window => 1,
+            Kernel::Select => QUANTITIES + MONTHS + DISCOUNTS,
+        }
+    }
+
+    /// What the kernel makes of bitvectors.
+    pub fn outcome(self, alloc: Global, inputs: &[Fenced]) -> Result<Outcome, Memory>
+        requires count { length inputs.now ≡ input_count self }
+        requires size { AreOfLength (length (list_at inputs.now 0)) inputs.now }
+        ensures { IfOk result (Makes self inputs.now) }
+    {
+        let a = inputs[0].wah();
         Ok(match self {
-            Kernel::And => Outcome::List(a.and(alloc, b)?),
-            Kernel::Or => Outcome::List(a.or(alloc, b)?),
-            Kernel::Xor => Outcome::List(a.xor(alloc, b)?),
+            Kernel::And => Outcome::List(a.and(alloc, inputs[1].wah())?),
+            Kernel::Or => Outcome::List(a.or(alloc, inputs[1].wah())?),
+            Kernel::Xor => Outcome::List(a.xor(alloc, inputs[1].wah())?),
             Kernel::Not => Outcome::List(a.not(alloc)?),
-            Kernel::Count => Outcome::Number(a.count()),
+            Kernel::Count => Outcome::Number(u64::from(a.count())),
+            Kernel::Window => Outcome::Number(u64::from(xor_of(&inputs[0]))),
+            Kernel::Select => Outcome::Number(selected_of(inputs, a.len())),
         })
     }
+}
+
+/// How many of so many rows are selected by the bins of three columns.
+fn selected_of(inputs: &[Fenced], rows: u32) -> u64
+    requires { length inputs.now ≡ 38 }
+    ensures { IsSelected (take 23 inputs.now) (take 12 (drop 23 inputs.now)) (drop 35 inputs.now) (page_count rows) result }
+{
+    let (quantities, rest) = inputs.split_at(QUANTITIES);
+    let (months, discounts) = rest.split_at(MONTHS);
+    selected(quantities, months, discounts, rows)
 }

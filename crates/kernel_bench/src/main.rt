@@ -1,12 +1,13 @@
-//! Runs one kernel on two bitvectors that are made from a seed, and prints a checksum of its results.
+//! Runs one kernel on bitvectors that are made from a seed, and prints a checksum of its results.
 #![tactic(auto)]
 
 mod checksum;
 mod command;
 mod draws;
 mod form;
+mod inputs;
 mod kernel;
-mod pair;
+mod pages;
 mod rounds;
 mod rows;
 #[cfg(test)]

@@ -1,12 +1,13 @@
 //! The rounds of a command.
-ghost use Rattle.std.specs.Prelude.{Bool, List, ◌≡◌, IfOk, OnOk, length};
+ghost use Rattle.std.specs.Prelude.{Bool, List, ◌≡◌, ◌+◌, IfOk, OnOk, length};
+ghost use Rattle.kernel_bench.specs.Kernel.{AreOfLength, input_count};
 ghost use Rattle.kernel_bench.specs.Rounds.{IsAfter, IsRound};
 
 use crate::checksum::Checksum;
 use crate::command::Command;
-use crate::kernel::Kernel;
-use crate::pair::Pair;
+use crate::inputs::{chosen, drawn};
 use crate::times::Times;
+use fence_window::Fenced;
 use std::io;
 use std::rt::Clock;
 use std::time::Instant;
@@ -16,32 +17,35 @@ pub fn run_rounds<R: Clock + AllocGlobal>(
     rt: &R,
     command: &Command,
 ) -> io::Result<(Checksum, Times)>
-    ensures { IfOk result (λ made. (first : List Bool) × (second : List Bool)
-        × (length first ≡ command.now.size) × (length second ≡ command.now.size)
-        × IsAfter command.now.rounds command.now.kernel first second made.0) }
+    ensures { IfOk result (λ made. (lists : List (List Bool))
+        × (length lists ≡ input_count command.now.kernel + 1) × AreOfLength command.now.size lists
+        × IsAfter command.now.rounds command.now.kernel lists made.0) }
 {
-    let pair = Pair::drawn(rt.alloc(), command.form, command.seed, command.size)?;
+    let count = command.kernel.input_count() + 1;
+    let inputs = drawn(rt.alloc(), command.form, command.seed, command.size, count)?;
     let mut checksum = Checksum::new();
     let mut times = Times::new();
     for _ in 0..command.rounds {
-        run_round(rt, command.kernel, &pair, &mut checksum, &mut times)?;
+        run_round(rt, command, &inputs, &mut checksum, &mut times)?;
     }
     Ok((checksum, times))
 }
 
 fn run_round<R: Clock + AllocGlobal>(
     rt: &R,
-    kernel: Kernel,
-    pair: &Pair,
+    command: &Command,
+    inputs: &[Fenced],
     checksum: &mut Checksum,
     times: &mut Times,
 ) -> io::Result<()>
-    ensures { OnOk result (IsRound kernel pair.now.first pair.now.second checksum.old checksum.new) }
+    requires count { length inputs.now ≡ input_count command.now.kernel + 1 }
+    requires size { AreOfLength command.now.size inputs.now }
+    ensures { OnOk result (IsRound command.now.kernel inputs.now checksum.old checksum.new) }
 {
-    // The checksum chooses the order, so that no round can be foretold from the one before.
-    let (a, b) = pair.in_order(checksum.mix);
+    // The checksum chooses the inputs, so that no round can be foretold from the one before.
+    let inputs = chosen(inputs, checksum.mix);
     let began = Instant::now(rt)?;
-    let outcome = kernel.outcome(rt.alloc(), a, b)?;
+    let outcome = command.kernel.outcome(rt.alloc(), inputs)?;
     times.add(began.elapsed(rt)?);
     checksum.add(&outcome);
     Ok(())

@@ -2,4 +2,4 @@ use Rattle.kernel_bench.specs.Rounds.{IsAfter}
 use Rattle.kernel_bench.proofs.rounds.run_rounds.Given as goal
 
 abbrev pub invariant-loop : goal.invariant-loop
-invariant-loop g l = IsAfter l.counter l.command.kernel l.pair.first l.pair.second l.checksum
+invariant-loop g l = IsAfter l.counter l.command.kernel l.inputs.items l.checksum

@@ -1,0 +1,41 @@
+-- What the kernels make that read page by page.
+use Rattle.std.specs.Prelude.{ℕ, zero, suc, ◌≡◌, ◌+◌, ◌*◌, ◌<◌, Bool, List, [], ◌∷◌, length, slice_index, sum_by, bit_and, bit_or, bit_xor, count_ones}
+use Rattle.wah_words.specs.Group.{group_at}
+use Rattle.fence_window.specs.Window.{IsWindow}
+
+-- a number and groups, with exclusive or
+abbrev pub xor_into : ℕ → List ℕ → ℕ
+xor_into xor [] = xor
+xor_into xor (group ∷ groups) = xor_into (bit_xor xor group) groups
+
+-- the number is the exclusive or of the list's groups on so many pages
+abbrev pub IsXor : List Bool → ℕ → ℕ → Type 0
+IsXor list zero xor = xor ≡ 0
+IsXor list (suc page) xor =
+    (before : ℕ) × (window : List ℕ) × IsXor list page before × (length window ≡ 128) × IsWindow list page window × (xor ≡ xor_into before window)
+
+-- a number and group k of each list, with or
+abbrev pub or_into : ℕ → List (List Bool) → ℕ → ℕ
+or_into group [] k = group
+or_into group (list ∷ lists) k = or_into (bit_or group (group_at list k)) lists k
+
+-- group k of the or of lists
+abbrev pub or_at : List (List Bool) → ℕ → ℕ
+or_at lists k = or_into 0 lists k
+
+-- group k of the rows that a list of each column has
+abbrev pub selected_at : List (List Bool) → List (List Bool) → List (List Bool) → ℕ → ℕ
+selected_at quantities months discounts k = bit_and (bit_and (or_at quantities k) (or_at months k)) (or_at discounts k)
+
+-- so many rows of a page are selected
+pub record IsSelectedIn (quantities months discounts : List (List Bool)) (page total : ℕ) : Type 0 where
+  pub groups : List ℕ
+  pub long : length groups ≡ 128
+  pub are : (i : ℕ) → i < 128 → slice_index groups i ≡ selected_at quantities months discounts (128 * page + i)
+  pub count : total ≡ sum_by count_ones groups
+
+-- so many rows of the first pages are selected
+abbrev pub IsSelected : List (List Bool) → List (List Bool) → List (List Bool) → ℕ → ℕ → Type 0
+IsSelected quantities months discounts zero total = total ≡ 0
+IsSelected quantities months discounts (suc page) total =
+    (before : ℕ) × (count : ℕ) × IsSelected quantities months discounts page before × IsSelectedIn quantities months discounts page count × (total ≡ before + count)
