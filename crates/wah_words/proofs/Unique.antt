@@ -1,13 +1,12 @@
 -- Each list has one spelling.
-use Rattle.std.proofs.Common.{◌≡◌, ◌≢◌, ℕ, zero, suc, ◌+◌, ◌-◌, ◌*◌, ◌/◌, ◌%◌, ◌^◌, ◌<◌, ◌≤◌, ◌⊎◌, ◌∙◌, Bool, true, false, eqb, List, [], ◌∷◌, ◌++◌, length, get_or, take, drop, replicate, refl, sym, ap, subst, arith, inl, inr}
+use Rattle.std.proofs.Common.{◌≡◌, ℕ, zero, suc, ◌+◌, ◌-◌, ◌*◌, ◌/◌, ◌%◌, ◌^◌, ◌<◌, ◌≤◌, ◌∙◌, Bool, true, false, eqb, List, [], ◌∷◌, ◌++◌, length, take, drop, replicate, refl, sym, ap, subst, arith, inl, inr}
 use Rattle.std.specs.Prelude.{All}
-use Rattle.std.proofs.lemmas.List.{append_cancel_left, append_assoc, length-append, length-replicate, replicate-append-replicate, take_at, drop_at, take-append-drop, length-drop}
-use Rattle.std.proofs.lemmas.List.Concat.{flat_map-append}
+use Rattle.std.proofs.lemmas.List.{append_cancel_left, append_assoc, length-append, length-replicate, replicate-append-replicate, take_at, drop_at}
 use Rattle.std.proofs.lemmas.List.Elements.{All-nil, All-append, All-replicate, All-head, All-tail}
 use Rattle.std.proofs.lemmas.Bool.{cases_lt}
-use Rattle.wah_words.specs.Group.{low_bits, group_rows, rows_of, group_count, filled}
+use Rattle.wah_words.specs.Group.{group_rows, rows_of, group_count, filled}
 use Rattle.wah_words.specs.Word.{groups, run_group, run_count}
-use Rattle.wah_words.specs.Canonical.{AreWords, AreRuns, AreApart, IsMixedLiteral, IsCountedFill, IsCanonical, Spells, spelled_rows}
+use Rattle.wah_words.specs.Canonical.{AreWords, AreRuns, AreApart, IsMixedLiteral, IsCountedFill, Spells}
 use lib.Lanes.{mask_l}
 use Rattle.wah_words.proofs.Bits.{mask-low_bits}
 use Rattle.wah_words.proofs.Words.{groups-cons, some_run, run_group-lt, run_group-literal, run_count-literal, run_count-fill, run_group-fill, same_head}
