@@ -4,5 +4,6 @@ pub mod Pointwise
 pub mod Reading
 pub mod Results
 pub mod Spelled
+pub mod Turned
 pub mod Unique
 pub mod Words
