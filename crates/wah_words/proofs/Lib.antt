@@ -1,4 +1,5 @@
 pub mod Bits
+pub mod Counted
 pub mod Marks
 pub mod Pointwise
 pub mod Reading

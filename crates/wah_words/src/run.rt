@@ -8,9 +8,9 @@ ghost use Rattle.wah_words.specs.Canonical.{IsCanonical, IsCountedFill, IsMixedL
 /// The group whose 31 rows are all true.
 pub const ALL_TRUE: u32 = 0x7fff_ffff;
 /// The lowest fill; up to the next constant its rows are false.
-const FALSE_FILL: u32 = 0x8000_0000;
+pub const FALSE_FILL: u32 = 0x8000_0000;
 /// The lowest fill of true rows.
-const TRUE_FILL: u32 = 0xc000_0000;
+pub const TRUE_FILL: u32 = 0xc000_0000;
 /// The bit of a fill that is the value of its rows.
 const VALUE_BIT: u32 = 0x4000_0000;
 
