@@ -73,6 +73,7 @@ impl Builder {
     }
 
     /// Puts so many groups at the end whose rows all have the value.
+    #[inline(always)]
     pub fn push_fill(&mut self, value: bool, count: u32) -> Result<(), Memory>
         requires some { 1 ≤ count }
         requires room { length self.old + count < 2 ^ 30 }
@@ -104,6 +105,8 @@ impl Builder {
     }
 
     /// Puts a run at the end.
+    // Inlined, as push_fill is: a call for each run takes a third of the time of a walk over two lists.
+    #[inline(always)]
     pub fn push_run(&mut self, run: Run) -> Result<(), Memory>
         requires some { 1 ≤ run.count }
         requires room { length self.old + run.count < 2 ^ 30 }
