@@ -1,13 +1,13 @@
 -- The bits of a number as truth values.
-use Rattle.std.proofs.Common.{◌≡◌, ◌≢◌, ℕ, zero, suc, ◌+◌, ◌-◌, ◌*◌, ◌/◌, ◌%◌, ◌^◌, ◌<◌, ◌≤◌, ◌⊎◌, ◌∙◌, Bool, true, false, cond, ltb, eqb, List, [], ◌∷◌, ◌++◌, length, get_or, set, take, drop, replicate, map, zero-add, refl, sym, ap, subst, arith, rules, inl, inr}
-use Rattle.std.specs.Prelude.{All, count_ones, count_by}
+use Rattle.std.proofs.Common.{◌≡◌, ℕ, zero, suc, ◌+◌, ◌-◌, ◌*◌, ◌/◌, ◌%◌, ◌^◌, ◌<◌, ◌≤◌, ◌∙◌, Bool, true, false, cond, eqb, List, [], ◌∷◌, ◌++◌, length, get_or, take, drop, replicate, zero-add, refl, sym, ap, arith}
+use Rattle.std.specs.Prelude.{All, count_ones}
 use lib.Lanes.{mask_l}
-use Rattle.std.proofs.lemmas.List.{append-nil, append_assoc, length-append, length-replicate, map-id, length-take-le, take_more}
-use Rattle.std.proofs.lemmas.List.Elements.{All-replicate, All-head, All-tail}
+use Rattle.std.proofs.lemmas.List.{map-id, length-take-le, take_more}
+use Rattle.std.proofs.lemmas.List.Elements.{All-head, All-tail}
 use Rattle.std.proofs.lemmas.Simd.{ones-mask_l, mask_l-lt}
-use Rattle.std.proofs.lemmas.Nat.{one_shl, mod-pow-add, shr-shr, pow_pos, div-add-mod'}
+use Rattle.std.proofs.lemmas.Nat.{one_shl, mod-pow-add, shr-shr, pow_pos}
 use Rattle.std.proofs.Math.Nat.{pow-suc}
-use Rattle.wah_words.specs.Group.{low_bits, group_rows, rows_of, filled}
+use Rattle.wah_words.specs.Group.{low_bits}
 use Rattle.wah_words.specs.Rows.{true_count}
 
 pub length-low_bits : (count n : ℕ) → length (low_bits count n) ≡ count

@@ -1,9 +1,11 @@
 pub mod Bits
+pub mod Counted
 pub mod Groups
 pub mod Marks
 pub mod Pointwise
 pub mod Reading
 pub mod Results
 pub mod Spelled
+pub mod Turned
 pub mod Unique
 pub mod Words

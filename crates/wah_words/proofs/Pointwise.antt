@@ -1,14 +1,13 @@
 -- Operations on lists of truth values, and on the groups that hold them.
-use Rattle.std.proofs.Common.{◌≡◌, ◌≢◌, ℕ, zero, suc, ◌+◌, ◌-◌, ◌*◌, ◌/◌, ◌%◌, ◌^◌, ◌<◌, ◌≤◌, ◌∙◌, Bool, true, false, cond, not, eqb, List, [], ◌∷◌, ◌++◌, length, get_or, take, drop, replicate, map, refl, sym, ap, subst, arith, zero-add, take-add}
+use Rattle.std.proofs.Common.{◌≡◌, ℕ, zero, suc, ◌+◌, ◌-◌, ◌/◌, ◌%◌, ◌<◌, ◌≤◌, ◌∙◌, Bool, true, false, not, eqb, List, [], ◌∷◌, ◌++◌, length, take, drop, replicate, map, refl, sym, ap, arith, take-add}
 use Rattle.std.specs.Prelude.{All, ◌&&◌, ◌||◌, bit_and, bit_or, bit_xor}
-use Rattle.std.specs.List.{zip}
 use Rattle.std.proofs.lemmas.Nat.{and_shr, or_shr, xor_shr, and_mod, or_mod, xor_mod}
 use Rattle.std.proofs.lemmas.List.{append_assoc, length-append, length-replicate, length-take-le, map-append, length-map, replicate_more, replicate-append-replicate, take_at, drop_at}
 use Rattle.std.proofs.lemmas.List.Concat.{flat_map-append}
 use Rattle.std.proofs.lemmas.List.Elements.{All-replicate, All-nil, All-cons, All-head, All-tail}
 use Rattle.wah_words.specs.Group.{low_bits, group_rows, rows_of, group_count}
 use Rattle.wah_words.specs.Rows.{pointwise, differs, cleared}
-use Rattle.wah_words.proofs.Bits.{length-low_bits, low_bits-ones}
+use Rattle.wah_words.proofs.Bits.{low_bits-ones}
 use Rattle.wah_words.proofs.Spelled.{length-group_rows, length-rows_of, rows_of-push}
 
 -- an operation on numbers that works bit by bit
@@ -112,16 +111,6 @@ rows_of-turned (suc count) turned group is =
     ap (λ rows. rows ++ rows_of (replicate count turned)) is
     ∙ ap (λ rest. map not (group_rows group) ++ rest) (rows_of-turned count turned group is)
     ∙ sym (map-append not (group_rows group) (rows_of (replicate count group)))
-
--- a run more
-pub turned_more : (out gs : List ℕ) (start : List Bool) (count turned group : ℕ) → rows_of out ≡ start ++ map not (rows_of gs) → group_rows turned ≡ map not (group_rows group) → rows_of (out ++ replicate count turned) ≡ start ++ map not (rows_of (gs ++ replicate count group))
-turned_more out gs start count turned group so_far is =
-    flat_map-append group_rows out (replicate count turned)
-    ∙ ap (λ front. front ++ rows_of (replicate count turned)) so_far
-    ∙ ap (λ last. start ++ map not (rows_of gs) ++ last) (rows_of-turned count turned group is)
-    ∙ append_assoc start (map not (rows_of gs)) (map not (rows_of (replicate count group)))
-    ∙ ap (λ rest. start ++ rest) (sym (map-append not (rows_of gs) (rows_of (replicate count group))))
-    ∙ ap (λ rows. start ++ map not rows) (sym (flat_map-append group_rows gs (replicate count group)))
 
 -- a list cleared from a row on
 cleared-append : (rows : ℕ) (a b : List Bool) → length a ≤ rows → cleared rows (a ++ b) ≡ a ++ cleared (rows - length a) b

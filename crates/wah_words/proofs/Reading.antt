@@ -1,16 +1,15 @@
 -- Words read from the front, to see whether they are in the canonical form.
-use Rattle.std.proofs.Common.{◌≡◌, ◌≢◌, ℕ, zero, suc, ◌+◌, ◌-◌, ◌*◌, ◌/◌, ◌%◌, ◌^◌, ◌<◌, ◌≤◌, ◌⊎◌, ◌∙◌, Bool, true, false, cond, List, [], ◌∷◌, ◌++◌, length, get_or, take, drop, replicate, refl, sym, ap, subst, arith, zero-add, inl, inr}
+use Rattle.std.proofs.Common.{◌≡◌, ℕ, ◌+◌, ◌-◌, ◌*◌, ◌/◌, ◌%◌, ◌^◌, ◌<◌, ◌≤◌, ◌∙◌, false, List, [], ◌∷◌, ◌++◌, length, get_or, take, drop, replicate, refl, sym, ap, subst, arith, zero-add, inl, inr}
 use Rattle.std.specs.Prelude.{All}
-use Rattle.std.proofs.lemmas.List.{take_more, length-take-le, get_or-take, length-append, length-replicate, take-append-drop, take_all, drop_all, drop-drop, drop_at, append_assoc, replicate_more, length_push, nil_from_length}
+use Rattle.std.proofs.lemmas.List.{take_more, length-take-le, get_or-take, take_all, drop_all, drop-drop, drop_at, append_assoc, replicate_more, length_push, nil_from_length}
 use Rattle.std.proofs.lemmas.Nat.{shr_below}
-use Rattle.std.proofs.lemmas.List.Concat.{flat_map-append}
 use Rattle.std.proofs.lemmas.List.Elements.{All-nil, All-replicate}
 use Rattle.std.proofs.lemmas.Bool.{cases_lt}
 use Rattle.wah_words.specs.Group.{low_bits, group_rows, rows_of, group_count}
-use Rattle.wah_words.specs.Word.{word_groups, groups, run_group, run_count}
+use Rattle.wah_words.specs.Word.{groups, run_group, run_count}
 use Rattle.wah_words.specs.Canonical.{IsCanonical, AreRuns, AreApart, IsMixedLiteral, IsCountedFill}
 use Rattle.wah_words.proofs.Bits.{drop-low_bits, low_bits-zero, zero_from_false}
-use Rattle.wah_words.proofs.Words.{groups-take-more, length-groups-take-more, length-groups-take-le, some_run, AreRuns-push, IsProper, run_group-lt}
+use Rattle.wah_words.proofs.Words.{groups-take-more, length-groups-take-more, length-groups-take-le, some_run, AreRuns-push, run_group-lt}
 use Rattle.wah_words.proofs.Spelled.{length-rows_of, rows_of-push}
 
 -- the words before i are runs, previous is the last of them, and left groups are still wanted

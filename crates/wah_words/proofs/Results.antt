@@ -1,5 +1,5 @@
 -- Groups that an operation made, as the rows of a bitvector.
-use Rattle.std.proofs.Common.{◌≡◌, ℕ, ◌+◌, ◌*◌, ◌≤◌, ◌∙◌, Bool, false, not, List, length, take, drop, map, refl, sym, ap, subst, arith}
+use Rattle.std.proofs.Common.{◌≡◌, ℕ, ◌≤◌, ◌∙◌, Bool, false, not, List, length, take, drop, map, ap, arith}
 use Rattle.std.specs.Prelude.{All}
 use Rattle.std.proofs.lemmas.List.{take-map, length-map}
 use Rattle.wah_words.specs.Group.{rows_of, group_count}

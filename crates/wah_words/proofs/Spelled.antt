@@ -1,16 +1,16 @@
 -- The rows that words spell.
-use Rattle.std.proofs.Common.{◌≡◌, ◌≢◌, ℕ, zero, suc, ◌+◌, ◌-◌, ◌*◌, ◌/◌, ◌%◌, ◌^◌, ◌<◌, ◌≤◌, ◌⊎◌, ◌∙◌, Bool, true, false, cond, List, [], ◌∷◌, ◌++◌, length, get_or, take, drop, replicate, refl, sym, ap, subst, arith, zero-add, take-add}
-use Rattle.std.specs.Prelude.{All, count_ones, count_by}
-use Rattle.std.proofs.lemmas.List.{append-nil, append_assoc, length-append, length-replicate, replicate-append-replicate, length-take, length-take-le, length-drop, take_more, take-append-drop, take_at, drop_at}
+use Rattle.std.proofs.Common.{◌≡◌, ℕ, zero, suc, ◌+◌, ◌-◌, ◌*◌, ◌%◌, ◌^◌, ◌<◌, ◌≤◌, ◌∙◌, Bool, false, cond, List, [], ◌∷◌, ◌++◌, length, take, drop, replicate, refl, sym, ap, arith, zero-add, take-add}
+use Rattle.std.specs.Prelude.{All, count_ones}
+use Rattle.std.proofs.lemmas.List.{append-nil, append_assoc, length-append, length-replicate, replicate-append-replicate, length-take-le, length-drop, take-append-drop, take_at, drop_at}
 use Rattle.std.proofs.lemmas.List.Concat.{flat_map-append}
 use Rattle.std.proofs.lemmas.List.Elements.{All-head, All-tail, All-replicate}
-use Rattle.std.proofs.lemmas.List.Sums.{sum_by-append, sum_by-cons, sum_by-take-drop, sum_by-take-le, count_by-le-length}
+use Rattle.std.proofs.lemmas.List.Sums.{sum_by-append, sum_by-cons, sum_by-take-drop, count_by-le-length}
 use Rattle.wah_words.specs.Group.{low_bits, group_rows, rows_of, group_count, Holds}
 use Rattle.wah_words.specs.Rows.{true_count, cleared}
-use Rattle.wah_words.specs.Word.{groups, run_group, run_count}
+use Rattle.wah_words.specs.Word.{groups}
 use Rattle.wah_words.specs.Canonical.{IsCanonical, Spells, spelled_rows}
 use Rattle.wah_words.proofs.Bits.{length-low_bits, low_bits-mod, low_bits-zero, true_count-low_bits}
-use Rattle.wah_words.proofs.Words.{groups-take-more, groups-split, run_group-lt}
+use Rattle.wah_words.proofs.Words.{groups-split}
 
 pub length-group_rows : (group : ℕ) → length (group_rows group) ≡ 31
 unfolding group_rows
@@ -33,42 +33,21 @@ true_count-group_rows : (group : ℕ) → group < 2 ^ 31 → true_count (group_r
 unfolding group_rows
 true_count-group_rows group below = true_count-low_bits 31 group below
 
-true_count-append : (a b : List Bool) → true_count (a ++ b) ≡ true_count a + true_count b
+pub true_count-append : (a b : List Bool) → true_count (a ++ b) ≡ true_count a + true_count b
 true_count-append a b = sum_by-append (λ row. cond row 1 0) a b
 
-true_count-run : (count group : ℕ) → group < 2 ^ 31 → true_count (rows_of (replicate count group)) ≡ count_ones group * count
+pub true_count-run : (count group : ℕ) → group < 2 ^ 31 → true_count (rows_of (replicate count group)) ≡ count_ones group * count
 true_count-run zero group below = omega arith
 true_count-run (suc count) group below =
     omega (arith, true_count-append (group_rows group) (rows_of (replicate count group)), true_count-group_rows group below, true_count-run count group below)
 
--- one word more
-true_count-more : (words : List ℕ) (i : ℕ) → i < length words → true_count (rows_of (groups (take (i + 1) words))) ≡ true_count (rows_of (groups (take i words))) + count_ones (run_group (get_or words i 0)) * run_count (get_or words i 0)
-true_count-more words i within =
-    let w = get_or words i 0 in
-    let run = replicate (run_count w) (run_group w) in
-    ap (λ gs. true_count (rows_of gs)) (groups-take-more words i within)
-    ∙ ap true_count (flat_map-append group_rows (groups (take i words)) run)
-    ∙ true_count-append (rows_of (groups (take i words))) (rows_of run)
-    ∙ ap (λ n. true_count (rows_of (groups (take i words))) + n) (true_count-run (run_count w) (run_group w) (run_group-lt w))
-
 -- a front of words has no more true rows than all of them
-true_count-take-le : (words : List ℕ) (i : ℕ) → true_count (rows_of (groups (take i words))) ≤ true_count (rows_of (groups words))
+pub true_count-take-le : (words : List ℕ) (i : ℕ) → true_count (rows_of (groups (take i words))) ≤ true_count (rows_of (groups words))
 true_count-take-le words i =
     let parted : rows_of (groups words) ≡ rows_of (groups (take i words)) ++ rows_of (groups (drop i words)) =
     ap rows_of (groups-split words i)
     ∙ flat_map-append group_rows (groups (take i words)) (groups (drop i words)) in
     omega (arith, ap true_count parted, true_count-append (rows_of (groups (take i words))) (rows_of (groups (drop i words))))
-
--- a total over the words so far, and what one word adds to it
-pub record IsCounted (words : List ℕ) (i total group count : ℕ) : Type 0 where
-  pub within : i < length words
-  pub so_far : total ≡ true_count (rows_of (groups (take i words)))
-  pub group_is : group ≡ run_group (get_or words i 0)
-  pub count_is : count ≡ run_count (get_or words i 0)
-
-pub counted : (words : List ℕ) (i total group count : ℕ) → IsCounted words i total group count → total + count_ones group * count ≡ true_count (rows_of (groups (take (i + 1) words)))
-counted words i total group count is =
-    rw (is.so_far, is.group_is, is.count_is) (sym (true_count-more words i is.within))
 
 true_count-false : (list : List Bool) → All (λ row. row ≡ false) list → true_count list ≡ 0
 true_count-false [] each = refl
@@ -81,14 +60,9 @@ pub true_count-spelled_rows : (words : List ℕ) (rows : ℕ) → IsCanonical wo
 true_count-spelled_rows words rows canonical =
     omega (arith, sum_by-take-drop (λ row. cond row 1 0) (rows_of (groups words)) rows, true_count-false (drop rows (rows_of (groups words))) canonical.padding)
 
-true_count-le-rows : (words : List ℕ) (rows : ℕ) → IsCanonical words rows → true_count (rows_of (groups words)) ≤ rows
+pub true_count-le-rows : (words : List ℕ) (rows : ℕ) → IsCanonical words rows → true_count (rows_of (groups words)) ≤ rows
 true_count-le-rows words rows canonical =
     omega (arith, true_count-spelled_rows words rows canonical, count_by-le-length (λ row. row) (spelled_rows words rows), length-spelled_rows words rows canonical)
-
--- no front of the words has more true rows than there are rows
-pub true_count-front : (words front : List ℕ) (rows i : ℕ) → IsCanonical words rows → front ≡ words → true_count (rows_of (groups (take i front))) ≤ rows
-true_count-front words front rows i canonical same =
-    omega (arith, true_count-take-le front i, ap (λ ws. true_count (rows_of (groups ws))) same, true_count-le-rows words rows canonical)
 
 -- one group more
 pub rows_of-push : (gs : List ℕ) (g : ℕ) → rows_of (gs ++ g ∷ []) ≡ rows_of gs ++ group_rows g

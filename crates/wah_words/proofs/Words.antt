@@ -1,12 +1,11 @@
 -- Words one after another, and the groups that they stand for.
-use Rattle.std.proofs.Common.{◌≡◌, ◌≢◌, ℕ, suc, ◌+◌, ◌-◌, ◌*◌, ◌/◌, ◌%◌, ◌^◌, ◌<◌, ◌≤◌, ◌⊎◌, ◌∙◌, Bool, true, false, cond, ltb, eqb, List, [], ◌∷◌, ◌++◌, length, get_or, set, take, drop, replicate, refl, sym, ap, subst, arith, rules, inl, inr}
-use Rattle.std.specs.Prelude.{All, nat_lt}
-use Rattle.std.proofs.lemmas.List.{append-nil, append_assoc, length-append, length-replicate, replicate-append-replicate, length_push, get_or-append-add, get_or_append_left, get_or_push, set-get_or, get_or_default, set_split, take-append-drop, take_at, take_more, take_all, drop_all}
+use Rattle.std.proofs.Common.{◌≡◌, ◌≢◌, ℕ, suc, ◌+◌, ◌-◌, ◌/◌, ◌%◌, ◌^◌, ◌<◌, ◌≤◌, ◌⊎◌, ◌∙◌, Bool, true, false, eqb, List, [], ◌∷◌, ◌++◌, length, get_or, set, take, drop, replicate, refl, sym, ap, subst, arith, inl, inr}
+use Rattle.std.specs.Prelude.{All}
+use Rattle.std.proofs.lemmas.List.{append-nil, append_assoc, length-append, length-replicate, replicate-append-replicate, length_push, get_or_append_left, get_or_push, set-get_or, get_or_default, set_split, take-append-drop, take_at, take_more, take_all, drop_all}
 use Rattle.std.proofs.lemmas.List.Concat.{flat_map-append}
 use Rattle.std.proofs.lemmas.List.Elements.{All-push, All-take}
 use Rattle.std.proofs.lemmas.Bool.{cases_lt, lt-ltb, le-ltb}
-use Rattle.std.proofs.lemmas.Grind.{common_steps}
-use Rattle.wah_words.specs.Group.{filled, IsUniform}
+use Rattle.wah_words.specs.Group.{filled}
 use Rattle.wah_words.specs.Word.{run_group, run_count, word_groups, groups}
 use Rattle.wah_words.specs.Canonical.{AreRuns, AreApart, IsMixedLiteral, IsCountedFill}
 
@@ -160,7 +159,7 @@ run_group-same_head : (v w : ℕ) → v / 2 ^ 30 ≡ w / 2 ^ 30 → 2 ^ 31 ≤ w
 run_group-same_head v w head above = run_group-fill v (omega arith) ∙ (rw head refl) ∙ sym (run_group-fill w above)
 
 -- the head of a fill of 32 bits
-heads : (w : ℕ) → 2 ^ 31 ≤ w → w < 2 ^ 32 → (w / 2 ^ 30 ≡ 2) ⊎ (w / 2 ^ 30 ≡ 3)
+pub heads : (w : ℕ) → 2 ^ 31 ≤ w → w < 2 ^ 32 → (w / 2 ^ 30 ≡ 2) ⊎ (w / 2 ^ 30 ≡ 3)
 heads w above below = elim (cases_lt (w / 2 ^ 30) 3) [ inl low ↦ inl (omega arith) | inr high ↦ inr (omega arith) ]
 
 same_from_heads : (v w : ℕ) → (v / 2 ^ 30 ≡ 2) ⊎ (v / 2 ^ 30 ≡ 3) → (w / 2 ^ 30 ≡ 2) ⊎ (w / 2 ^ 30 ≡ 3) → run_group v ≡ run_group w → v / 2 ^ 30 ≡ w / 2 ^ 30

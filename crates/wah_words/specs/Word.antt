@@ -1,6 +1,6 @@
 -- A word is a run: so many groups of one value. Below 2 ^ 31 it is a literal, which is one group as it stands.
 -- From 2 ^ 31 on it is a fill: bit 30 is the value of all its rows, and the low 30 bits count its groups.
-use Rattle.std.specs.Prelude.{ℕ, ◌/◌, ◌%◌, ◌^◌, ◌==◌, Bool, nat_lt, List, if◌then◌else◌, replicate}
+use Rattle.std.specs.Prelude.{ℕ, ◌/◌, ◌%◌, ◌^◌, ◌==◌, nat_lt, List, if◌then◌else◌, replicate}
 use Rattle.std.specs.List.{flat_map}
 use Rattle.wah_words.specs.Group.{filled}
 

@@ -15,26 +15,14 @@ pub fn complement(alloc: Global, words: &[u32], rows: u32) -> Result<Builder, Me
     requires { IsCanonical words.now rows }
     ensures { IfOk result (λ out. rows_of out ≡ cleared rows (map not (rows_of (groups words.now)))) }
 {
-    // The last word alone may become two.
-    let mut out = Builder::with_capacity(alloc, words.len() + 1)?;
     let Some((last, front)) = words.split_last() else {
-        return Ok(out);
+        return Builder::from_slice(alloc, words);
     };
-    push_complement(&mut out, front)?;
+    let mut out = Builder::from_slice(alloc, front)?;
+    out.turn();
+    // Of the words the last alone may become two, since its last group may have rows past the last row.
     push_last_complement(&mut out, *last, rows)?;
     Ok(out)
-}
-
-/// Puts the groups of words at the end with each row turned.
-fn push_complement(out: &mut Builder, words: &[u32]) -> Result<(), Memory>
-    requires fills { All IsCountedFill words.now }
-    requires room { length out.old + length (groups words.now) < 2 ^ 30 }
-    ensures { OnOk result (rows_of out.new ≡ rows_of out.old ++ map not (rows_of (groups words.now))) }
-{
-    for word in words {
-        out.push_run(Run::of_word(*word).complement())?;
-    }
-    Ok(())
 }
 
 /// Puts the groups of the last word at the end with each row turned, and false past the last row.

@@ -3,6 +3,7 @@
 
 mod builder;
 mod complement;
+mod count;
 mod operation;
 mod places;
 mod run;

@@ -1,5 +1,5 @@
 //! Words, read as runs of groups.
-ghost use Rattle.std.specs.Prelude.{◌≡◌, ◌<◌, ◌≤◌, ◌-◌, ◌^◌, ◌++◌, ◌↔◌, IsTrue, false, not, length, map, replicate};
+ghost use Rattle.std.specs.Prelude.{◌≡◌, ◌<◌, ◌≤◌, ◌+◌, ◌-◌, ◌^◌, ◌++◌, ◌↔◌, IsTrue, false, not, length, map, replicate};
 ghost use Rattle.wah_words.specs.Group.{IsUniform, filled, group_count as groups_for, group_rows};
 ghost use Rattle.wah_words.specs.Rows.{cleared};
 ghost use Rattle.wah_words.specs.Word.{run_group, run_count};
@@ -8,9 +8,11 @@ ghost use Rattle.wah_words.specs.Canonical.{IsCanonical, IsCountedFill, IsMixedL
 /// The group whose 31 rows are all true.
 pub const ALL_TRUE: u32 = 0x7fff_ffff;
 /// The lowest fill; up to the next constant its rows are false.
-const FALSE_FILL: u32 = 0x8000_0000;
+pub const FALSE_FILL: u32 = 0x8000_0000;
 /// The lowest fill of true rows.
-const TRUE_FILL: u32 = 0xc000_0000;
+pub const TRUE_FILL: u32 = 0xc000_0000;
+/// The bit of a fill that is the value of its rows.
+const VALUE_BIT: u32 = 0x4000_0000;
 
 /// So many groups of one value, side by side. More than one are all false or all true.
 #[derive(Clone, Copy)]
@@ -71,6 +73,19 @@ pub fn fill_word(value: bool, count: u32) -> u32
         TRUE_FILL + count
     } else {
         FALSE_FILL + count
+    }
+}
+
+/// The word of the same kind whose rows are the others.
+pub fn word_complement(word: u32) -> u32
+    ensures fill { (2 ^ 31 ≤ result) ↔ (2 ^ 31 ≤ word) }
+    ensures count { run_count result ≡ run_count word }
+    ensures group { run_group result + run_group word ≡ 2 ^ 31 - 1 }
+{
+    word ^ if word < FALSE_FILL {
+        ALL_TRUE
+    } else {
+        VALUE_BIT
     }
 }
 

@@ -8,9 +8,10 @@ ghost use Rattle.wah_words.specs.Rows.{differs, pointwise, true_count};
 
 use crate::builder::Builder;
 use crate::complement::complement;
+use crate::count::true_rows;
 use crate::operation::{And, Operation, Or, Xor};
 use crate::places::groups_of_places;
-use crate::run::{Run, group_count, group_of, is_canonical};
+use crate::run::{group_count, group_of, is_canonical};
 use crate::{Memory, walk};
 use std::alloc::Global;
 use std::marker::Model;
@@ -171,12 +172,9 @@ impl Wah {
     pub fn count(&self) -> u32
         ensures { result ≡ true_count self.now }
     {
-        let mut total = 0;
-        for word in &self.words {
-            prove!(total <= self.rows);
-            let run = Run::of_word(*word);
-            total += run.group.count_ones() * run.count;
-        }
+        let rows = self.rows;
+        let total = true_rows(&self.words);
+        prove!(total <= rows);
         total
     }
 }

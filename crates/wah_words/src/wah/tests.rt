@@ -100,47 +100,109 @@ fn complements(rt: HostRuntime) -> Result<(), Fail> {
 }
 
 #[test]
-fn runs_are_joined(rt: HostRuntime) -> Result<(), Fail> {
-    for (a, b, rows, and, or, xor) in [
+fn and_joins_runs(rt: HostRuntime) -> Result<(), Fail> {
+    for (a, b, rows, words) in [
         (
             &[0x8000_0001, 0xc000_0001][..],
             &[0xc000_0001, 0x8000_0001][..],
             62,
             &[0x8000_0002][..],
-            &[0xc000_0002][..],
-            &[0xc000_0002][..],
         ),
         (
             &[0xc000_0001, 0x8000_0001, 0xc000_0001][..],
             &[0xc000_0003][..],
             93,
             &[0xc000_0001, 0x8000_0001, 0xc000_0001][..],
-            &[0xc000_0003][..],
-            &[0x8000_0001, 0xc000_0001, 0x8000_0001][..],
         ),
         (
             &[0x8000_0001, 0x0000_0008, 0x8000_0001][..],
             &[0x8000_0001, 0x0000_0008, 0x8000_0001][..],
             93,
             &[0x8000_0001, 0x0000_0008, 0x8000_0001][..],
-            &[0x8000_0001, 0x0000_0008, 0x8000_0001][..],
-            &[0x8000_0003][..],
         ),
         (
             &[0x8000_0001, 0x0000_0008, 0x8000_0001][..],
             &[0xc000_0001, 0x7fff_fff7, 0xc000_0001][..],
             93,
             &[0x8000_0003][..],
+        ),
+    ] {
+        let a = wah_of_words(rt.alloc(), a, rows)?;
+        let b = wah_of_words(rt.alloc(), b, rows)?;
+        assert_eq!(rt; a.len(), b.len());
+        assert_eq!(rt; a.and(rt.alloc(), &b)?.words(), words);
+    }
+    Ok(())
+}
+
+#[test]
+fn or_joins_runs(rt: HostRuntime) -> Result<(), Fail> {
+    for (a, b, rows, words) in [
+        (
+            &[0x8000_0001, 0xc000_0001][..],
+            &[0xc000_0001, 0x8000_0001][..],
+            62,
+            &[0xc000_0002][..],
+        ),
+        (
+            &[0xc000_0001, 0x8000_0001, 0xc000_0001][..],
             &[0xc000_0003][..],
+            93,
+            &[0xc000_0003][..],
+        ),
+        (
+            &[0x8000_0001, 0x0000_0008, 0x8000_0001][..],
+            &[0x8000_0001, 0x0000_0008, 0x8000_0001][..],
+            93,
+            &[0x8000_0001, 0x0000_0008, 0x8000_0001][..],
+        ),
+        (
+            &[0x8000_0001, 0x0000_0008, 0x8000_0001][..],
+            &[0xc000_0001, 0x7fff_fff7, 0xc000_0001][..],
+            93,
             &[0xc000_0003][..],
         ),
     ] {
         let a = wah_of_words(rt.alloc(), a, rows)?;
         let b = wah_of_words(rt.alloc(), b, rows)?;
         assert_eq!(rt; a.len(), b.len());
-        assert_eq!(rt; a.and(rt.alloc(), &b)?.words(), and);
-        assert_eq!(rt; a.or(rt.alloc(), &b)?.words(), or);
-        assert_eq!(rt; a.xor(rt.alloc(), &b)?.words(), xor);
+        assert_eq!(rt; a.or(rt.alloc(), &b)?.words(), words);
+    }
+    Ok(())
+}
+
+#[test]
+fn xor_joins_runs(rt: HostRuntime) -> Result<(), Fail> {
+    for (a, b, rows, words) in [
+        (
+            &[0x8000_0001, 0xc000_0001][..],
+            &[0xc000_0001, 0x8000_0001][..],
+            62,
+            &[0xc000_0002][..],
+        ),
+        (
+            &[0xc000_0001, 0x8000_0001, 0xc000_0001][..],
+            &[0xc000_0003][..],
+            93,
+            &[0x8000_0001, 0xc000_0001, 0x8000_0001][..],
+        ),
+        (
+            &[0x8000_0001, 0x0000_0008, 0x8000_0001][..],
+            &[0x8000_0001, 0x0000_0008, 0x8000_0001][..],
+            93,
+            &[0x8000_0003][..],
+        ),
+        (
+            &[0x8000_0001, 0x0000_0008, 0x8000_0001][..],
+            &[0xc000_0001, 0x7fff_fff7, 0xc000_0001][..],
+            93,
+            &[0xc000_0003][..],
+        ),
+    ] {
+        let a = wah_of_words(rt.alloc(), a, rows)?;
+        let b = wah_of_words(rt.alloc(), b, rows)?;
+        assert_eq!(rt; a.len(), b.len());
+        assert_eq!(rt; a.xor(rt.alloc(), &b)?.words(), words);
     }
     Ok(())
 }
@@ -169,11 +231,16 @@ fn lists_are_extended(rt: HostRuntime) -> Result<(), Fail> {
 }
 
 #[test]
-fn places_are_true(rt: HostRuntime) -> Result<(), Fail> {
+fn no_places_are_true(rt: HostRuntime) -> Result<(), Fail> {
     let none = Wah::from_places(rt.alloc(), &[], 0)?;
     assert_eq!(rt; none.words(), [].as_slice());
     let none = Wah::from_places(rt.alloc(), &[], 32)?;
     assert_eq!(rt; none.words(), [0x8000_0002].as_slice());
+    Ok(())
+}
+
+#[test]
+fn places_are_true(rt: HostRuntime) -> Result<(), Fail> {
     let some = Wah::from_places(rt.alloc(), &[0, 31, 3968], 3969)?;
     assert_eq!(rt; some.words(), [1, 1, 0x8000_007e, 1].as_slice());
     let some = Wah::from_places(rt.alloc(), &[62, 63], 200)?;
@@ -206,57 +273,104 @@ fn made_rows(alloc: Global, state: &mut u64, count: usize) -> Result<Vec<bool>, 
     Ok(rows)
 }
 
+/// Two lists of that many rows.
+fn made_pair(
+    alloc: Global,
+    state: &mut u64,
+    count: usize,
+) -> Result<(Vec<bool>, Vec<bool>), Memory> {
+    let a = made_rows(alloc, state, count)?;
+    let b = made_rows(alloc, state, count)?;
+    Ok((a, b))
+}
+
 #[test]
-fn as_on_plain_lists(rt: HostRuntime) -> Result<(), Fail> {
+fn and_is_that_of_plain_lists(rt: HostRuntime) -> Result<(), Fail> {
     let mut state = 1;
     for count in (0..131).chain(3960..3975) {
-        let a = made_rows(rt.alloc(), &mut state, count)?;
-        let b = made_rows(rt.alloc(), &mut state, count)?;
-        let both: Vec<bool> = a
+        let (a, b) = made_pair(rt.alloc(), &mut state, count)?;
+        let rows: Vec<bool> = a
             .iter()
             .zip(b.iter())
             .map(|(x, y)| *x && *y)
             .collect(rt.alloc())?;
-        let either: Vec<bool> = a
+        let rows = wah_of_rows(&rt, rt.alloc(), &rows)?;
+        let a = wah_of_rows(&rt, rt.alloc(), &a)?;
+        let b = wah_of_rows(&rt, rt.alloc(), &b)?;
+        assert_eq!(rt; a.len(), b.len());
+        assert_eq!(rt;
+            a.and(rt.alloc(), &b)?.words(),
+            rows.words(),
+            "{count} rows"
+        );
+    }
+    Ok(())
+}
+
+#[test]
+fn or_is_that_of_plain_lists(rt: HostRuntime) -> Result<(), Fail> {
+    let mut state = 1;
+    for count in (0..131).chain(3960..3975) {
+        let (a, b) = made_pair(rt.alloc(), &mut state, count)?;
+        let rows: Vec<bool> = a
             .iter()
             .zip(b.iter())
             .map(|(x, y)| *x || *y)
             .collect(rt.alloc())?;
-        let one: Vec<bool> = a
+        let rows = wah_of_rows(&rt, rt.alloc(), &rows)?;
+        let a = wah_of_rows(&rt, rt.alloc(), &a)?;
+        let b = wah_of_rows(&rt, rt.alloc(), &b)?;
+        assert_eq!(rt; a.len(), b.len());
+        assert_eq!(rt; a.or(rt.alloc(), &b)?.words(), rows.words(), "{count} rows");
+    }
+    Ok(())
+}
+
+#[test]
+fn xor_is_that_of_plain_lists(rt: HostRuntime) -> Result<(), Fail> {
+    let mut state = 1;
+    for count in (0..131).chain(3960..3975) {
+        let (a, b) = made_pair(rt.alloc(), &mut state, count)?;
+        let rows: Vec<bool> = a
             .iter()
             .zip(b.iter())
             .map(|(x, y)| *x != *y)
             .collect(rt.alloc())?;
-        let others: Vec<bool> = a.iter().map(|x| !*x).collect(rt.alloc())?;
-        let left = wah_of_rows(&rt, rt.alloc(), &a)?;
-        let right = wah_of_rows(&rt, rt.alloc(), &b)?;
-        assert_eq!(rt; left.len(), right.len());
-        let and = left.and(rt.alloc(), &right)?;
-        let or = left.or(rt.alloc(), &right)?;
-        let xor = left.xor(rt.alloc(), &right)?;
+        let rows = wah_of_rows(&rt, rt.alloc(), &rows)?;
+        let a = wah_of_rows(&rt, rt.alloc(), &a)?;
+        let b = wah_of_rows(&rt, rt.alloc(), &b)?;
+        assert_eq!(rt; a.len(), b.len());
         assert_eq!(rt;
-            and.words(),
-            wah_of_rows(&rt, rt.alloc(), &both)?.words(),
+            a.xor(rt.alloc(), &b)?.words(),
+            rows.words(),
             "{count} rows"
         );
-        assert_eq!(rt;
-            or.words(),
-            wah_of_rows(&rt, rt.alloc(), &either)?.words(),
-            "{count} rows"
-        );
-        assert_eq!(rt;
-            xor.words(),
-            wah_of_rows(&rt, rt.alloc(), &one)?.words(),
-            "{count} rows"
-        );
-        assert_eq!(rt;
-            left.not(rt.alloc())?.words(),
-            wah_of_rows(&rt, rt.alloc(), &others)?.words(),
-            "{count} rows"
-        );
-        assert_eq!(rt; left.count() as usize, a.iter().filter(|x| **x).count());
-        let back = wah_of_words(rt.alloc(), left.words(), left.len())?;
-        assert_eq!(rt; back.words(), left.words());
+    }
+    Ok(())
+}
+
+#[test]
+fn not_is_that_of_plain_lists(rt: HostRuntime) -> Result<(), Fail> {
+    let mut state = 1;
+    for count in (0..131).chain(3960..3975) {
+        let (a, _) = made_pair(rt.alloc(), &mut state, count)?;
+        let rows: Vec<bool> = a.iter().map(|x| !*x).collect(rt.alloc())?;
+        let rows = wah_of_rows(&rt, rt.alloc(), &rows)?;
+        let a = wah_of_rows(&rt, rt.alloc(), &a)?;
+        assert_eq!(rt; a.not(rt.alloc())?.words(), rows.words(), "{count} rows");
+    }
+    Ok(())
+}
+
+#[test]
+fn plain_lists_are_counted_and_read_back(rt: HostRuntime) -> Result<(), Fail> {
+    let mut state = 1;
+    for count in (0..131).chain(3960..3975) {
+        let (a, _) = made_pair(rt.alloc(), &mut state, count)?;
+        let wah = wah_of_rows(&rt, rt.alloc(), &a)?;
+        assert_eq!(rt; wah.count() as usize, a.iter().filter(|x| **x).count());
+        let back = wah_of_words(rt.alloc(), wah.words(), wah.len())?;
+        assert_eq!(rt; back.words(), wah.words());
     }
     Ok(())
 }

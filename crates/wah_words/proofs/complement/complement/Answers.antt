@@ -1,13 +1,17 @@
-use Rattle.std.proofs.Common.{◌≡◌, ◌+◌, ◌≤◌, ◌∙◌, ap, sym, arith, length, subst, map, not, ◌++◌, ◌∷◌, [], replicate}
+use Rattle.std.proofs.Common.{◌≡◌, ◌+◌, ◌∙◌, ap, sym, arith, length, subst, map, not, ◌++◌, replicate}
 use Rattle.std.proofs.lemmas.List.{map-append}
 use Rattle.std.proofs.lemmas.List.Concat.{flat_map-append}
 use Rattle.wah_words.specs.Group.{rows_of, group_rows, group_count}
 use Rattle.wah_words.specs.Word.{groups, run_count, run_group}
 use Rattle.wah_words.specs.Rows.{cleared}
-use Rattle.wah_words.specs.Canonical.{IsCountedFill, AreRuns}
-use Rattle.wah_words.proofs.Words.{counted_last, some_run, groups-push, length-groups-push}
+use Rattle.wah_words.specs.Canonical.{AreRuns}
+use Rattle.wah_words.proofs.Words.{AreRuns-front, counted_last, some_run, groups-push, length-groups-push}
 use Rattle.wah_words.proofs.Pointwise.{length-turned}
 use Rattle.wah_words.proofs.complement.complement.Goals as goal
+
+pub from_slice-requires-2 : goal.from_slice-requires-2
+from_slice-requires-2 c =
+    AreRuns-front c.in-Some.front.now c.in-Some.last.now (subst AreRuns c.in-Some.ensures.cases.0 c.requires.runs)
 
 pub push_last_complement-requires-clause-fill : goal.push_last_complement-requires-clause-fill
 push_last_complement-requires-clause-fill c =
@@ -24,16 +28,16 @@ pub push_last_complement-requires-clause-size : goal.push_last_complement-requir
 push_last_complement-requires-clause-size c =
     let size : length (groups c.in-Some.front.now) + run_count c.in-Some.last.now ≡ group_count c.args.rows =
     sym (length-groups-push c.in-Some.front.now c.in-Some.last.now) ∙ ap (λ words. length (groups words)) (sym c.in-Some.ensures.cases.0) ∙ c.requires.size in
-    let turned : rows_of c.push_complement.new.out ≡ map not (rows_of (groups c.in-Some.front.now)) =
-    c.in_ok-push_complement.ensures ∙ ap (λ out. rows_of out ++ map not (rows_of (groups c.in-Some.front.now))) c.in_ok-out.ensures in
-    omega (arith, length-turned c.push_complement.new.out (groups c.in-Some.front.now) turned)
+    let turned : rows_of c.turn.new.self ≡ map not (rows_of (groups c.in-Some.front.now)) =
+    c.turn.ensures ∙ ap (λ out. map not (rows_of out)) c.in_ok-out.ensures in
+    omega (arith, length-turned c.turn.new.self (groups c.in-Some.front.now) turned)
 
 pub returns : goal.returns
 returns c =
     let front = groups c.in-Some.front.now in
     let run = replicate (run_count c.in-Some.last.now) (run_group c.in-Some.last.now) in
-    let turned : rows_of c.push_complement.new.out ≡ map not (rows_of front) =
-    c.in_ok-push_complement.ensures ∙ ap (λ out. rows_of out ++ map not (rows_of front)) c.in_ok-out.ensures in
+    let turned : rows_of c.turn.new.self ≡ map not (rows_of front) =
+    c.turn.ensures ∙ ap (λ out. map not (rows_of out)) c.in_ok-out.ensures in
     let whole : front ++ run ≡ groups c.args.words.now =
     sym (groups-push c.in-Some.front.now c.in-Some.last.now) ∙ ap groups (sym c.in-Some.ensures.cases.0) in
     c.in_ok-push_last_complement.ensures

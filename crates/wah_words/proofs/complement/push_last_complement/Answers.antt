@@ -1,10 +1,9 @@
-use Rattle.std.proofs.Common.{◌≡◌, ◌+◌, ◌-◌, ◌*◌, ◌%◌, ◌∙◌, ap, sym, arith, length, replicate, map, not, ◌++◌, ◌∷◌, []}
-use Rattle.std.proofs.lemmas.List.{length-append, length-replicate, append-nil, replicate_more, append_assoc}
+use Rattle.std.proofs.Common.{◌≡◌, ◌-◌, ◌∙◌, ap, sym, arith, replicate, map, not, ◌++◌, ◌∷◌, []}
+use Rattle.std.proofs.lemmas.List.{append-nil}
 use Rattle.wah_words.specs.Group.{rows_of, group_rows}
-use Rattle.wah_words.specs.Word.{groups, run_group, run_count}
+use Rattle.wah_words.specs.Word.{run_group, run_count}
 use Rattle.wah_words.specs.Rows.{cleared}
 use Rattle.wah_words.proofs.Words.{some_run}
-use Rattle.wah_words.proofs.Spelled.{rows_of-push, length-rows_of, length-group_rows}
 use Rattle.wah_words.proofs.Pointwise.{rows_of-turned, rows_of-last_cleared}
 use Rattle.wah_words.proofs.complement.push_last_complement.Goals as goal
 use Rattle.wah_words.proofs.complement.push_last_complement.Goals.{then-run-gt1+in_ok-push_run, else-run-gt1}

@@ -1,6 +1,6 @@
-use Rattle.std.proofs.Common.{◌≡◌, ◌<◌, ◌/◌, ◌%◌, ◌^◌, ◌*◌, ◌∙◌, arith, get_or}
+use Rattle.std.proofs.Common.{◌<◌, ◌%◌, ◌^◌, ◌*◌, arith, get_or}
 use Rattle.std.proofs.lemmas.Nat.{or_lt, one_shl, pow_below}
-use Rattle.wah_words.proofs.Marks.{IsMarked, IsDone, index-le, marked_none, marked_more, rows_done}
+use Rattle.wah_words.proofs.Marks.{IsDone, index-le, marked_none, marked_more, rows_done}
 use Rattle.wah_words.proofs.places.groups_of_places.Goals as goal
 
 pub loop-place-init : goal.loop-place-init

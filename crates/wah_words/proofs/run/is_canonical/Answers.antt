@@ -1,7 +1,6 @@
 use Rattle.std.proofs.Common.{◌≡◌, ◌/◌, ◌%◌, ◌^◌, arith, refl}
 use Rattle.std.proofs.lemmas.Bool.{eqb-true, eq-eqb}
-use Rattle.wah_words.specs.Word.{run_count}
-use Rattle.wah_words.proofs.Reading.{read_more, refused_word, refused_neighbour, refused_long, refused_short, canonical_whole, canonical_part, refused_padding}
+use Rattle.wah_words.proofs.Reading.{read_more, refused_word, refused_neighbour, refused_long, canonical_whole, canonical_part, refused_padding}
 use Rattle.wah_words.proofs.run.is_canonical.Goals as goal
 use Rattle.wah_words.proofs.run.is_canonical.Goals.{then-not-is_proper-via-then-not-is_proper, then-not-is_proper-via-else-not-is_proper+then-joins, then-not-is_proper-via-else-not-is_proper+else-joins+then-left-run}
 

@@ -1,4 +1,4 @@
-use Rattle.std.proofs.Common.{◌≡◌, ◌∙◌, sym, ap}
+use Rattle.std.proofs.Common.{◌∙◌, sym, ap}
 use Rattle.wah_words.proofs.Unique.{words_from_list}
 use Rattle.wah_words.specs.Canonical.{spelled_rows}
 use Rattle.wah_words.proofs.wah.one_spelling.Goals as goal

@@ -1,4 +1,4 @@
-use Rattle.std.proofs.Common.{◌≡◌, ◌+◌, ◌∙◌, ◌++◌, ap, refl, sym, arith, drop, length, replicate}
+use Rattle.std.proofs.Common.{◌∙◌, ◌++◌, ap, refl, arith, drop, length, replicate}
 use Rattle.std.proofs.lemmas.List.{length-append, length-replicate, length-drop}
 use Rattle.wah_words.specs.Group.{rows_of}
 use Rattle.wah_words.specs.Rows.{pointwise}

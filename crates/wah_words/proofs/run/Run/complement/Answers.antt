@@ -1,4 +1,4 @@
-use Rattle.std.proofs.Common.{◌∙◌, arith}
+use Rattle.std.proofs.Common.{arith}
 use Rattle.std.proofs.lemmas.Nat.{xor_lt}
 use Rattle.wah_words.proofs.Pointwise.{group_rows-complement}
 use Rattle.wah_words.proofs.run.Run.complement.Goals as goal

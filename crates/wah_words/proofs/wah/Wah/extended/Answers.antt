@@ -1,7 +1,6 @@
-use Rattle.std.proofs.Common.{◌≡◌, ◌-◌, ◌∙◌, ◌++◌, ap, sym, subst, arith, length, drop, take, replicate, false, ℕ}
+use Rattle.std.proofs.Common.{◌≡◌, ◌∙◌, ap, sym, subst, arith, length, drop, take, false, ℕ}
 use Rattle.std.specs.Prelude.{All}
 use Rattle.wah_words.specs.Group.{group_count, rows_of}
-use Rattle.wah_words.specs.Word.{groups}
 use Rattle.wah_words.proofs.Spelled.{IsExtended, held-extended, length-extended, length-held, padding_held, rows_held, length-spelled_rows}
 use Rattle.wah_words.proofs.wah.Wah.extended.Goals as goal
 

@@ -1,4 +1,4 @@
-use Rattle.std.proofs.Common.{◌≡◌, ◌≤◌, ◌∙◌, ap, sym, subst, arith, length, get_or, false, Bool, List, ℕ, ◌↔◌}
+use Rattle.std.proofs.Common.{◌≤◌, ◌∙◌, ap, sym, subst, arith, length, get_or, false, Bool, List, ℕ, ◌↔◌}
 use Rattle.std.specs.Prelude.{Contains, IsTrue}
 use Rattle.std.proofs.lemmas.List.{length-take-le}
 use Rattle.wah_words.specs.Group.{rows_of}

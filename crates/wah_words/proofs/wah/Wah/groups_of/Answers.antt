@@ -1,6 +1,6 @@
 use Rattle.std.proofs.Common.{◌≡◌, ◌+◌, ◌-◌, ◌*◌, ◌/◌, ◌∙◌, ℕ, zero, suc, false, eqb, ◌<◌, sym, ap, arith, length, drop, take}
 use Rattle.std.proofs.lemmas.List.{length_push, length-drop, take_all}
-use Rattle.wah_words.specs.Group.{rows_of, Holds}
+use Rattle.wah_words.specs.Group.{rows_of}
 use Rattle.wah_words.proofs.Spelled.{whole_group, last_group}
 use Rattle.wah_words.proofs.wah.Wah.groups_of.Goals as goal
 

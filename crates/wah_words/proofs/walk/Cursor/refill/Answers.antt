@@ -1,4 +1,4 @@
-use Rattle.std.proofs.Common.{◌≡◌, ◌∙◌, ◌++◌, ap, sym, arith, replicate}
+use Rattle.std.proofs.Common.{◌≡◌, ◌∙◌, ap, sym, arith}
 use Rattle.std.proofs.lemmas.List.Elements.{All-rest}
 use Rattle.wah_words.specs.Word.{groups}
 use Rattle.wah_words.specs.Canonical.{IsCountedFill}

@@ -1,0 +1,54 @@
+//! How many rows of words are true.
+ghost use Rattle.std.specs.Prelude.{◌≡◌, ◌<◌, ◌≤◌, ◌+◌, ◌*◌, ◌^◌, [], ◌∷◌, count_ones};
+ghost use Rattle.wah_words.specs.Group.{rows_of};
+ghost use Rattle.wah_words.specs.Rows.{true_count};
+ghost use Rattle.wah_words.specs.Word.{groups, run_count, run_group};
+
+use crate::run::{FALSE_FILL, Run, TRUE_FILL, is_literal};
+
+/// How many rows of the words are true.
+pub fn true_rows(words: &[u32]) -> u32
+    requires { true_count (rows_of (groups words.now)) < 2 ^ 32 }
+    ensures { result ≡ true_count (rows_of (groups words.now)) }
+{
+    let (pairs, rest) = words.as_chunks::<2>();
+    let mut total = 0;
+    for [low, high] in pairs {
+        total += true_rows_of_pair(*low, *high);
+    }
+    match rest {
+        [last] => total + true_rows_of_pair(*last, FALSE_FILL),
+        _ => total,
+    }
+}
+
+/// How many rows of two words are true.
+fn true_rows_of_pair(low: u32, high: u32) -> u32
+    requires { true_count (rows_of (groups (low ∷ high ∷ []))) < 2 ^ 32 }
+    ensures { result ≡ true_count (rows_of (groups (low ∷ high ∷ []))) }
+{
+    // One count of 64 bits takes both words where they are literals. Two counts of 32 bits would be
+    // made by shuffles of bytes, which takes longer.
+    let literals = u64::from(literal_group(low)) | (u64::from(literal_group(high)) << 32);
+    literals.count_ones() + true_rows_of_fill(low) + true_rows_of_fill(high)
+}
+
+/// The group of a literal, and none of the rows of a fill.
+fn literal_group(word: u32) -> u32
+    ensures literal { word < 2 ^ 31 → result ≡ word }
+    ensures fill { 2 ^ 31 ≤ word → result ≡ 0 }
+{
+    if is_literal(word) { word } else { 0 }
+}
+
+/// How many rows of a fill are true, and 0 for a literal.
+fn true_rows_of_fill(word: u32) -> u32
+    requires { count_ones (run_group word) * run_count word < 2 ^ 32 }
+    ensures literal { word < 2 ^ 31 → result ≡ 0 }
+    ensures fill { 2 ^ 31 ≤ word → result ≡ count_ones (run_group word) * run_count word }
+{
+    if word < TRUE_FILL {
+        return 0;
+    }
+    31 * Run::of_word(word).count
+}
