@@ -1,5 +1,5 @@
 //! Words with each row turned.
-ghost use Rattle.std.specs.Prelude.{◌≡◌, ◌<◌, ◌≤◌, ◌+◌, ◌^◌, ◌++◌, All, IfOk, OnOk, not, length, map, replicate};
+ghost use Rattle.std.specs.Prelude.{◌≡◌, ◌<◌, ◌+◌, ◌++◌, IfOk, OnOk, not, length, map, replicate};
 ghost use Rattle.wah_words.specs.Group.{group_count, rows_of};
 ghost use Rattle.wah_words.specs.Word.{groups, run_count, run_group};
 ghost use Rattle.wah_words.specs.Rows.{cleared};
