@@ -16,7 +16,7 @@ pub fn complement(alloc: Global, words: &[u32], rows: u32) -> Result<Builder, Me
     ensures { IfOk result (λ out. rows_of out ≡ cleared rows (map not (rows_of (groups words.now)))) }
 {
     let Some((last, front)) = words.split_last() else {
-        return Builder::from_slice(alloc, words);
+        return Builder::with_capacity(alloc, 0);
     };
     let mut out = Builder::from_slice(alloc, front)?;
     out.turn();

@@ -170,6 +170,7 @@ impl Wah {
     pub fn count(&self) -> u32
         ensures { result ≡ true_count self.now }
     {
+        // No more rows are true than there are, so the total fits.
         let rows = self.rows;
         let total = true_rows(&self.words);
         prove!(total <= rows);
