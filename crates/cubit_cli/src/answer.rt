@@ -1,8 +1,7 @@
 //! One query over one file, from its bytes to the line on the sink.
-ghost use Rattle.std.specs.Prelude.{◌≡◌, ◌⊎◌, ◌++◌, ◌≤◌, ℕ, List, Ok, Err, IsErrOf, IfErr, IfOk, IsOk, IsOkAnd, IsErr, OnOk, OnErr};
-ghost use Rattle.cubit_base.specs.Table.{Row};
+ghost use Rattle.std.specs.Prelude.{◌≡◌, ◌⊎◌, ◌≤◌, Ok, Err, IsErrOf, IfOk, IsOkAnd, OnOk, OnErr};
 ghost use Rattle.cubit_io.specs.Count.{Rose};
-ghost use Rattle.cubit_io.specs.Held.{Holds, HasWhereTold, IsMissing};
+ghost use Rattle.cubit_io.specs.Held.{HasWhereTold, IsMissing};
 ghost use Rattle.cubit_io.specs.Pieces.{GrewBy, GrewByPrefix};
 ghost use Rattle.cubit_cli.specs.Refusal.{judged};
 ghost use Rattle.cubit_cli.specs.Texts.{answer_text, answer_of};

@@ -24,6 +24,7 @@ ones-true_fill word head = ap count_ones (run_group-true_fill word head) ∙ one
 
 -- the group of a literal, and none of a fill
 pub record IsLiteral (word literal : ℕ) : Type 0 where
+  pub within : literal < 2 ^ 31
   pub low : word < 2 ^ 31 → literal ≡ word
   pub high : 2 ^ 31 ≤ word → literal ≡ 0
 
@@ -53,11 +54,11 @@ ones-literal-le word literal is =
     ]
 
 -- one number of 64 bits has the bits of both
-ones-both : (low high : ℕ) → low < 2 ^ 32 → high < 2 ^ 32 → count_ones (bit_or low (high * 2 ^ 32 % 2 ^ 64)) ≡ count_ones low + count_ones high
+ones-both : (low high : ℕ) → low < 2 ^ 31 → high < 2 ^ 31 → count_ones (bit_or low (high * 2 ^ 32 % 2 ^ 64)) ≡ count_ones low + count_ones high
 ones-both low high low_fits high_fits =
-    ap (λ shifted. count_ones (bit_or low shifted)) (shl_whole high 32 32 64 high_fits (omega arith))
-    ∙ ap count_ones (or_comm low (high * 2 ^ 32) ∙ or_shifted high 32 low low_fits)
-    ∙ ones_cat 32 high low low_fits
+    ap (λ shifted. count_ones (bit_or low shifted)) (shl_whole high 31 32 64 high_fits (omega arith))
+    ∙ ap count_ones (or_comm low (high * 2 ^ 32) ∙ or_shifted high 32 low (omega arith))
+    ∙ ones_cat 32 high low (omega arith)
     ∙ omega arith
 
 -- the true rows of a word after others
@@ -79,20 +80,15 @@ true_count-more words low high =
     let apart : words ++ low ∷ high ∷ [] ≡ (words ++ low ∷ []) ++ high ∷ [] = sym (append_assoc words (low ∷ []) (high ∷ [])) in
     omega (arith, ap (λ ws. true_count (rows_of (groups ws))) apart, true_count-push (words ++ low ∷ []) high, true_count-push words low, true_count-pair low high)
 
--- two words as one number of 64 bits for the literals, and as the rows of the fills
-pub record ArePaired (low high low_group high_group : ℕ) : Type 0 where
-  pub low_is : IsLiteral low low_group
-  pub high_is : IsLiteral high high_group
-  pub low_fits : low_group < 2 ^ 32
-  pub high_fits : high_group < 2 ^ 32
+-- one count of 64 bits for the literals, and the rows of the first fill
+pub true_rows-first : (low high low_group high_group low_rows : ℕ) → IsLiteral low low_group → IsLiteral high high_group → IsFill low low_rows → count_ones (bit_or low_group (high_group * 2 ^ 32 % 2 ^ 64)) + low_rows ≤ true_count (rows_of (groups (low ∷ high ∷ [])))
+true_rows-first low high low_group high_group low_rows low_is high_is low_fill =
+    omega (arith, ones-both low_group high_group low_is.within high_is.within, true_rows-parted low low_group low_rows low_is low_fill, ones-literal-le high high_group high_is, true_count-pair low high)
 
-pub true_rows-first : (low high low_group high_group low_rows : ℕ) → ArePaired low high low_group high_group → IsFill low low_rows → count_ones (bit_or low_group (high_group * 2 ^ 32 % 2 ^ 64)) + low_rows ≤ true_count (rows_of (groups (low ∷ high ∷ [])))
-true_rows-first low high low_group high_group low_rows are is_low =
-    omega (arith, ones-both low_group high_group are.low_fits are.high_fits, true_rows-parted low low_group low_rows are.low_is is_low, ones-literal-le high high_group are.high_is, true_count-pair low high)
-
-pub true_rows-both : (low high low_group high_group low_rows high_rows : ℕ) → ArePaired low high low_group high_group → IsFill low low_rows → IsFill high high_rows → count_ones (bit_or low_group (high_group * 2 ^ 32 % 2 ^ 64)) + low_rows + high_rows ≡ true_count (rows_of (groups (low ∷ high ∷ [])))
-true_rows-both low high low_group high_group low_rows high_rows are is_low is_high =
-    omega (arith, ones-both low_group high_group are.low_fits are.high_fits, true_rows-parted low low_group low_rows are.low_is is_low, true_rows-parted high high_group high_rows are.high_is is_high, true_count-pair low high)
+-- and those of the second
+pub true_rows-both : (low high low_group high_group low_rows high_rows : ℕ) → IsLiteral low low_group → IsLiteral high high_group → IsFill low low_rows → IsFill high high_rows → count_ones (bit_or low_group (high_group * 2 ^ 32 % 2 ^ 64)) + low_rows + high_rows ≡ true_count (rows_of (groups (low ∷ high ∷ [])))
+true_rows-both low high low_group high_group low_rows high_rows low_is high_is low_fill high_fill =
+    omega (arith, ones-both low_group high_group low_is.within high_is.within, true_rows-parted low low_group low_rows low_is low_fill, true_rows-parted high high_group high_rows high_is high_fill, true_count-pair low high)
 
 -- a chunk of the front
 get_or-first_chunks : (n count : ℕ) (xs : List ℕ) (i : ℕ) → i < count → get_or (first_chunks n count xs) i [] ≡ take n (drop (i * n) xs)

@@ -1,8 +1,9 @@
 //! The one writer of words.
 //!
-//! Runs are joined as they are pushed. To turn each row of all words, no run has to be pushed anew: a literal
-//! that is neither all false nor all true stays one, a fill counts what it did, and two fills side by side
-//! that had different values have different values then.
+//! Runs are joined as they are pushed. To turn each row, no run has to be pushed anew: a turned literal is
+//! neither all false nor all true where the literal was neither, a turned fill counts what the fill did, and
+//! two fills side by side that had different values have different values then. So no fewer words could stand
+//! for the turned rows.
 ghost use Rattle.std.specs.Prelude.{ℕ, ◌≡◌, ◌<◌, ◌≤◌, ◌+◌, ◌-◌, ◌^◌, [], ◌∷◌, ◌++◌, length, map, not, replicate, IfOk, OnOk, OnErr};
 ghost use Rattle.wah_words.specs.Group.{filled, rows_of};
 ghost use Rattle.wah_words.specs.Word.{groups};

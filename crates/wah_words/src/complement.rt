@@ -1,5 +1,5 @@
 //! Words with each row turned.
-ghost use Rattle.std.specs.Prelude.{◌≡◌, ◌<◌, ◌≤◌, ◌+◌, ◌^◌, ◌++◌, All, IfOk, OnOk, not, length, map, replicate};
+ghost use Rattle.std.specs.Prelude.{◌≡◌, ◌<◌, ◌+◌, ◌++◌, IfOk, OnOk, not, length, map, replicate};
 ghost use Rattle.wah_words.specs.Group.{group_count, rows_of};
 ghost use Rattle.wah_words.specs.Word.{groups, run_count, run_group};
 ghost use Rattle.wah_words.specs.Rows.{cleared};
@@ -16,7 +16,7 @@ pub fn complement(alloc: Global, words: &[u32], rows: u32) -> Result<Builder, Me
     ensures { IfOk result (λ out. rows_of out ≡ cleared rows (map not (rows_of (groups words.now)))) }
 {
     let Some((last, front)) = words.split_last() else {
-        return Builder::from_slice(alloc, words);
+        return Builder::with_capacity(alloc, 0);
     };
     let mut out = Builder::from_slice(alloc, front)?;
     out.turn();

@@ -1,5 +1,5 @@
 //! How many rows of words are true.
-ghost use Rattle.std.specs.Prelude.{◌≡◌, ◌<◌, ◌≤◌, ◌+◌, ◌*◌, ◌^◌, [], ◌∷◌, count_ones};
+ghost use Rattle.std.specs.Prelude.{◌≡◌, ◌<◌, ◌≤◌, ◌*◌, ◌^◌, [], ◌∷◌, count_ones};
 ghost use Rattle.wah_words.specs.Group.{rows_of};
 ghost use Rattle.wah_words.specs.Rows.{true_count};
 ghost use Rattle.wah_words.specs.Word.{groups, run_count, run_group};
@@ -16,6 +16,7 @@ pub fn true_rows(words: &[u32]) -> u32
     for [low, high] in pairs {
         total += true_rows_of_pair(*low, *high);
     }
+    // A fill of no groups stands beside a word that has no other.
     match rest {
         [last] => total + true_rows_of_pair(*last, FALSE_FILL),
         _ => total,
@@ -29,16 +30,17 @@ fn true_rows_of_pair(low: u32, high: u32) -> u32
 {
     // One count of 64 bits takes both words where they are literals. Two counts of 32 bits would be
     // made by shuffles of bytes, which takes longer.
-    let literals = u64::from(literal_group(low)) | (u64::from(literal_group(high)) << 32);
+    let literals = literal_group(low) | (literal_group(high) << 32);
     literals.count_ones() + true_rows_of_fill(low) + true_rows_of_fill(high)
 }
 
 /// The group of a literal, and none of the rows of a fill.
-fn literal_group(word: u32) -> u32
+fn literal_group(word: u32) -> u64
+    ensures within { result < 2 ^ 31 }
     ensures literal { word < 2 ^ 31 → result ≡ word }
     ensures fill { 2 ^ 31 ≤ word → result ≡ 0 }
 {
-    if is_literal(word) { word } else { 0 }
+    if is_literal(word) { u64::from(word) } else { 0 }
 }
 
 /// How many rows of a fill are true, and 0 for a literal.

@@ -1,5 +1,5 @@
 //! The groups of a list that is true at a few places.
-ghost use Rattle.std.specs.Prelude.{ℕ, ◌≡◌, ◌<◌, ◌≤◌, ◌+◌, ◌^◌, ◌++◌, ◌↔◌, All, Contains, IfOk, IsTrue, false, length, slice_index_or};
+ghost use Rattle.std.specs.Prelude.{ℕ, ◌≡◌, ◌<◌, ◌+◌, ◌^◌, ◌++◌, ◌↔◌, All, Contains, IfOk, IsTrue, false, length, slice_index_or};
 ghost use Rattle.std.specs.List.Sorted.{IsStrictlyIncreasing};
 ghost use Rattle.wah_words.specs.Group.{group_count as groups_for, group_rows, rows_of};
 

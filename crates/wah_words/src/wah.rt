@@ -1,5 +1,5 @@
 //! Bitvectors.
-ghost use Rattle.std.specs.Prelude.{ℕ, Bool, List, ◌≡◌, ◌<◌, ◌≤◌, ◌^◌, [], ◌∷◌, ◌++◌, ◌&&◌, ◌||◌, false, not, length, map, take, drop, replicate, slice_index, slice_index_or, ◌-◌, All, Contains, ◌↔◌, IsTrue, IfOk, IfSome, IsSome};
+ghost use Rattle.std.specs.Prelude.{ℕ, Bool, List, ◌≡◌, ◌<◌, ◌≤◌, ◌^◌, ◌++◌, ◌&&◌, ◌||◌, false, not, length, map, take, drop, replicate, slice_index, slice_index_or, ◌-◌, All, Contains, ◌↔◌, IsTrue, IfOk, IfSome, IsSome};
 ghost use Rattle.std.specs.List.Sorted.{IsStrictlyIncreasing};
 ghost use Rattle.wah_words.specs.Group.{Holds, group_at, group_count as groups_for, rows_of};
 ghost use Rattle.wah_words.specs.Word.{groups as groups_of};
@@ -172,6 +172,7 @@ impl Wah {
     pub fn count(&self) -> u32
         ensures { result ≡ true_count self.now }
     {
+        // No more rows are true than there are, so the total fits.
         let rows = self.rows;
         let total = true_rows(&self.words);
         prove!(total <= rows);

@@ -1,5 +1,5 @@
 //! Two word lists walked together, run by run.
-ghost use Rattle.std.specs.Prelude.{ℕ, ◌≡◌, ◌<◌, ◌≤◌, ◌^◌, [], All, IfOk, drop, length};
+ghost use Rattle.std.specs.Prelude.{◌≡◌, ◌<◌, ◌≤◌, ◌^◌, [], All, IfOk, drop, length};
 ghost use Rattle.wah_words.specs.Group.{rows_of};
 ghost use Rattle.wah_words.specs.Rows.{pointwise};
 ghost use Rattle.wah_words.specs.Word.{groups as groups_of};

@@ -9,8 +9,8 @@ use Rattle.wah_words.proofs.Words.{AreRuns-front, counted_last, some_run, groups
 use Rattle.wah_words.proofs.Pointwise.{length-turned}
 use Rattle.wah_words.proofs.complement.complement.Goals as goal
 
-pub from_slice-requires-2 : goal.from_slice-requires-2
-from_slice-requires-2 c =
+pub from_slice-requires : goal.from_slice-requires
+from_slice-requires c =
     AreRuns-front c.in-Some.front.now c.in-Some.last.now (subst AreRuns c.in-Some.ensures.cases.0 c.requires.runs)
 
 pub push_last_complement-requires-clause-fill : goal.push_last_complement-requires-clause-fill
