@@ -5,6 +5,9 @@ ghost use Rattle.tbl_text.specs.Field.{is_digit, IsPair, spelled, leading_digits
 
 use cubit_base::{Flag, LineStatus, day_of};
 
+// The digits that an integer may have.
+const MOST_DIGITS: usize = 10;
+
 /// An integer: 1 to 10 decimal digits, leading zeros among them.
 pub fn integer_of(field: &[u8]) -> Option<u64>
     ensures { result ≡ integer_value field.now }
@@ -94,6 +97,31 @@ pub(crate) fn leading_integer(bytes: &[u8]) -> Option<(u64, &[u8])>
         1..=10 => Some((number_of(digits), rest)),
         _ => None,
     }
+}
+
+/// The integer at the front, and what follows its digits; none also where the bytes end with them. One loop counts the
+/// digits and reads them.
+#[inline(always)]
+pub(crate) fn front_number(bytes: &[u8]) -> Option<(u64, &[u8])>
+    ensures value { IfSome result (λ r. (integer_value (leading_digits bytes.now) ≡ Some r.0)
+        × (r.1.now ≡ after_digits bytes.now)) }
+    ensures within { IfSome result (λ r. r.0 < 10 ^ 10) }
+{
+    let mut number = 0;
+    for (at, b) in bytes.iter().enumerate() {
+        if !b.is_ascii_digit() {
+            return if at == 0 {
+                None
+            } else {
+                Some((number, &bytes[at..]))
+            };
+        }
+        if at == MOST_DIGITS {
+            return None;
+        }
+        number = number * 10 + u64::from(*b - b'0');
+    }
+    None
 }
 
 // How many digits stand at the front.
