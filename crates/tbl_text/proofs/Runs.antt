@@ -1,24 +1,19 @@
--- The text at the front of some bytes and the bars in it, through masks of many bytes at a time.
+-- A run of bytes at the front and the bars in it, through masks of many bytes at a time.
 use Rattle.std.proofs.Common.{◌≡◌, ℕ, zero, suc, ◌+◌, ◌*◌, ◌/◌, ◌%◌, ◌^◌, ◌<◌, ◌≤◌, Bool, true, false, not, cond, eqb, List, [], ◌∷◌, map, length, take, drop, count_by, refl, sym, ap, ap₂, ◌∙◌, arith}
 use Rattle.std.proofs.Math.Nat.{zero-mod, mod-one}
 use Rattle.std.proofs.Math.Seq.{take-add}
 use Rattle.std.proofs.lemmas.Bool.{eq-eqb, ne_eqb}
-use Rattle.std.proofs.lemmas.List.{length-drop, take-take, take-map}
+use Rattle.std.proofs.lemmas.List.{take-take, take-map}
 use Rattle.std.proofs.lemmas.List.Folds.{prefix_len-append}
 use Rattle.std.proofs.lemmas.List.Sums.{prefix_len-le-length, sum_by-append}
 use Rattle.std.proofs.lemmas.Nat.{mod-pow-add}
 use Rattle.std.proofs.lemmas.Simd.{chunk-drop, length-chunk, leading_from_mask_l, trailing_mask_l, ones-mask_l}
 use Rattle.std.specs.Int.RustNames.{count_ones}
 use Rattle.std.specs.List.{prefix_len}
-use Rattle.tbl_text.specs.Field.{is_text_byte}
-use Rattle.tbl_text.specs.Tail.{is_odd_byte}
 use lib.Count.{count_trailing_zeros}
 use lib.Lanes.{chunk, mask_l}
 
--- ---- how far the text goes
-
-pub run_bound : (bytes : List ℕ) (i : ℕ) → i ≤ length bytes → i + prefix_len is_text_byte (drop i bytes) ≤ length bytes
-run_bound bytes i within = omega (arith, prefix_len-le-length is_text_byte (drop i bytes), length-drop i bytes)
+-- ---- how far a run goes
 
 not-not : (b : Bool) → b ≡ not (not b)
 not-not true = refl
@@ -28,30 +23,32 @@ none_fails : (b : Bool) (n l m : ℕ) → n ≤ l → cond (not b) (1 + n) 0 ≡
 none_fails true n l m le e ih = let no : ⊥ = omega arith in absurd no
 none_fails false n l m le e ih = let z = ih (omega arith) in omega arith
 
-same_run : (xs : List ℕ) → prefix_len is_text_byte xs ≡ prefix_len (λ x. not (is_odd_byte x)) xs
-same_run [] = refl
-same_run (x ∷ xs) = ap₂ (λ b n. cond b (1 + n) 0) (not-not (is_text_byte x)) (same_run xs)
+-- a run of bytes that pass q
+module _ (q : ℕ → Bool) where
+  same_run : (xs : List ℕ) → prefix_len q xs ≡ prefix_len (λ x. not (not (q x))) xs
+  same_run [] = refl
+  same_run (x ∷ xs) = ap₂ (λ b n. cond b (1 + n) 0) (not-not (q x)) (same_run xs)
 
-all_pass : (xs : List ℕ) → prefix_len (λ x. not (is_odd_byte x)) xs ≡ length xs → mask_l (map is_odd_byte xs) ≡ 0
-all_pass [] e = refl
-all_pass (x ∷ xs) e = none_fails (is_odd_byte x) _ (length xs) _ (prefix_len-le-length (λ y. not (is_odd_byte y)) xs) (omega arith) (all_pass xs)
+  all_pass : (xs : List ℕ) → prefix_len (λ x. not (not (q x))) xs ≡ length xs → mask_l (map (λ x. not (q x)) xs) ≡ 0
+  all_pass [] e = refl
+  all_pass (x ∷ xs) e = none_fails (not (q x)) _ (length xs) _ (prefix_len-le-length (λ y. not (not (q y))) xs) (omega arith) (all_pass xs)
 
-split : (d : List ℕ) (i n : ℕ) → prefix_len is_text_byte (drop i d) ≡ cond (eqb (prefix_len is_text_byte (chunk i n d)) (length (chunk i n d))) (length (chunk i n d) + prefix_len is_text_byte (drop (i + n) d)) (prefix_len is_text_byte (chunk i n d))
-split d i n = ap (prefix_len is_text_byte) (chunk-drop i n d) ∙ prefix_len-append is_text_byte (chunk i n d) (drop (i + n) d)
+  split : (d : List ℕ) (i n : ℕ) → prefix_len q (drop i d) ≡ cond (eqb (prefix_len q (chunk i n d)) (length (chunk i n d))) (length (chunk i n d) + prefix_len q (drop (i + n) d)) (prefix_len q (chunk i n d))
+  split d i n = ap (prefix_len q) (chunk-drop i n d) ∙ prefix_len-append q (chunk i n d) (drop (i + n) d)
 
--- where no byte is odd the text goes on
-pub run_through : (d : List ℕ) (i n : ℕ) → i + n ≤ length d → mask_l (map is_odd_byte (chunk i n d)) ≡ 0 → prefix_len is_text_byte (drop i d) ≡ n + prefix_len is_text_byte (drop (i + n) d)
-run_through d i n room none =
-    let c = chunk i n d in
-    split d i n ∙ ap (λ b. cond b (length c + prefix_len is_text_byte (drop (i + n) d)) (prefix_len is_text_byte c)) (eq-eqb _ _ (same_run c ∙ leading_from_mask_l is_odd_byte c none))
-    ∙ ap (λ k. k + prefix_len is_text_byte (drop (i + n) d)) (length-chunk i n d room)
+  -- where no byte fails the run goes on
+  pub run_through : (d : List ℕ) (i n : ℕ) → i + n ≤ length d → mask_l (map (λ x. not (q x)) (chunk i n d)) ≡ 0 → prefix_len q (drop i d) ≡ n + prefix_len q (drop (i + n) d)
+  run_through d i n room none =
+      let c = chunk i n d in
+      split d i n ∙ ap (λ b. cond b (length c + prefix_len q (drop (i + n) d)) (prefix_len q c)) (eq-eqb _ _ (same_run c ∙ leading_from_mask_l (λ x. not (q x)) c none))
+      ∙ ap (λ k. k + prefix_len q (drop (i + n) d)) (length-chunk i n d room)
 
--- where one is, the text ends at the first of them
-pub run_stops : (d : List ℕ) (i n : ℕ) → i + n ≤ length d → n ≤ 64 → 0 < mask_l (map is_odd_byte (chunk i n d)) → prefix_len is_text_byte (drop i d) ≡ count_trailing_zeros 64 (mask_l (map is_odd_byte (chunk i n d)))
-run_stops d i n room short some =
-    let c = chunk i n d in
-    split d i n ∙ ap (λ b. cond b (length c + prefix_len is_text_byte (drop (i + n) d)) (prefix_len is_text_byte c)) (ne_eqb _ _ (λ (e : prefix_len is_text_byte c ≡ length c). omega (arith, all_pass c (sym (same_run c) ∙ e))))
-    ∙ same_run c ∙ sym (trailing_mask_l is_odd_byte 64 c (omega (arith, length-chunk i n d room)) some)
+  -- where one does, the run ends at the first of them
+  pub run_stops : (d : List ℕ) (i n : ℕ) → i + n ≤ length d → n ≤ 64 → 0 < mask_l (map (λ x. not (q x)) (chunk i n d)) → prefix_len q (drop i d) ≡ count_trailing_zeros 64 (mask_l (map (λ x. not (q x)) (chunk i n d)))
+  run_stops d i n room short some =
+      let c = chunk i n d in
+      split d i n ∙ ap (λ b. cond b (length c + prefix_len q (drop (i + n) d)) (prefix_len q c)) (ne_eqb _ _ (λ (e : prefix_len q c ≡ length c). omega (arith, all_pass c (sym (same_run c) ∙ e))))
+      ∙ same_run c ∙ sym (trailing_mask_l (λ x. not (q x)) 64 c (omega (arith, length-chunk i n d room)) some)
 
 -- ---- how many bars
 

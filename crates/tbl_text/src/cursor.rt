@@ -6,9 +6,9 @@ ghost use Rattle.tbl_text.specs.Cursor.{Takes, Finds, IsTail, IsEnd, EndsLine};
 ghost use Rattle.tbl_text.specs.Field.{IsPair, integer_value, money_value, quantity_value, date_value, flag_value, status_value, is_text};
 ghost use Rattle.tbl_text.specs.Reading.{Begins};
 
-use crate::field::{date_field, digit_count, flag_of, front_number, pair_of, status_of};
+use crate::field::{date_field, flag_of, front_number, pair_of, status_of};
 use crate::fields::ends_in_bar;
-use crate::tail::text_and_bars;
+use crate::wide::{few_digits, text_and_bars};
 use cubit_base::{Flag, Key, LineStatus, Tuple};
 
 /// What is left of a file.
@@ -173,13 +173,13 @@ impl<'a> Cursor<'a> {
         Some(hundredths)
     }
 
-    // Text that is digits alone.
+    // Text that is a few digits.
     #[inline(always)]
     fn digits(&mut self) -> Option<()>
         ensures { IfSome result (λ _.
             Takes is_text self.old.rest.now self.new.rest.now true) }
     {
-        let count = digit_count(self.rest);
+        let count = few_digits(self.rest)?;
         self.field_of_len(count)?;
         Some(())
     }

@@ -9,7 +9,7 @@ mod fields;
 mod first_row;
 mod line;
 mod lines;
-mod tail;
+mod wide;
 
 pub use base::{BaseFault, base_of};
 pub use field::{date_field, integer_of, money_of, quantity_of};

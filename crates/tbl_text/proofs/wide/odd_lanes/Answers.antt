@@ -1,8 +1,8 @@
 use Rattle.std.proofs.Common.{◌+◌, ◌-◌, ◌%◌, arith}
 use Rattle.std.proofs.lemmas.Simd.{zip2_splat}
-use Rattle.tbl_text.specs.Tail.{is_odd_byte}
+use Rattle.tbl_text.specs.Wide.{is_odd_byte}
 use Rattle.tbl_text.proofs.Lanes.{at_most, from_splat, masked}
-use Rattle.tbl_text.proofs.tail.odd_lanes.Goals as goal
+use Rattle.tbl_text.proofs.wide.odd_lanes.Goals as goal
 
 pub returns : goal.returns
 returns c =

@@ -2,7 +2,7 @@ use Rattle.std.proofs.Common.{◌≡◌, ◌+◌, ◌-◌, ◌≤◌, length, ta
 use Rattle.std.specs.List.{prefix_len}
 use Rattle.tbl_text.specs.Field.{is_text_byte}
 use Rattle.tbl_text.proofs.Runs.{is_bar}
-use Rattle.tbl_text.proofs.tail.text_and_bars.Given as goal
+use Rattle.tbl_text.proofs.wide.text_and_bars.Given as goal
 
 -- all bytes so far are text, and these bars are in them
 abbrev pub invariant-loop-at : goal.invariant-loop-at

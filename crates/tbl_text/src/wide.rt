@@ -1,14 +1,16 @@
-//! The text at the front of some bytes, many bytes at a time.
+//! The text or the digits at the front of some bytes, many bytes at a time.
 ghost use Rattle.std.specs.Prelude.{◌≡◌, ◌^◌, ◌%◌, ◌≤◌, ◌<◌, ◌==◌, map, take, length, count_by, count_ones, IfSome};
 ghost use Rattle.std.specs.List.{prefix_len};
 ghost use Rattle.std.specs.Simd.Lanes.{mask_l};
-ghost use Rattle.tbl_text.specs.Field.{is_text_byte};
-ghost use Rattle.tbl_text.specs.Tail.{is_odd_byte};
+ghost use Rattle.tbl_text.specs.Field.{is_digit, is_text_byte};
+ghost use Rattle.tbl_text.specs.Wide.{is_odd_byte, is_no_digit};
 
 use std::simd::prelude::*;
 
-// How many bytes are looked at together.
+// How many bytes are looked at together for text and for digits.
 const LANES: usize = 64;
+
+const DIGIT_LANES: usize = 16;
 
 /// How much text stands at the front, and how many bars are in it; none where it ends too close to the end of the bytes.
 #[inline(always)]
@@ -31,6 +33,31 @@ pub(crate) fn text_and_bars(bytes: &[u8]) -> Option<(usize, usize)>
         at += LANES;
     }
     None
+}
+
+/// How many digits stand at the front; none where they are many, or end too close to the end of the bytes.
+#[inline(always)]
+pub(crate) fn few_digits(bytes: &[u8]) -> Option<usize>
+    ensures { IfSome result (λ n. n ≡ prefix_len is_digit bytes.now) }
+{
+    if bytes.len() < DIGIT_LANES {
+        return None;
+    }
+    let others = other_lanes(u8x16::from_slice(bytes));
+    if others == 0 {
+        return None;
+    }
+    Some(others.trailing_zeros() as usize)
+}
+
+// The lanes that are no digits.
+#[inline(always)]
+fn other_lanes(lanes: u8x16) -> u64
+    ensures { result ≡ mask_l (map is_no_digit lanes) }
+{
+    (lanes - u8x16::splat(b'0'))
+        .simd_ge(u8x16::splat(10))
+        .to_bitmask()
 }
 
 // The lanes that are no text.

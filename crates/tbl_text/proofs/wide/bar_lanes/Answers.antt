@@ -1,7 +1,7 @@
 use Rattle.std.proofs.Common.{eqb, arith}
 use Rattle.std.proofs.lemmas.Simd.{zip2_splat}
 use Rattle.tbl_text.proofs.Lanes.{hit, masked}
-use Rattle.tbl_text.proofs.tail.bar_lanes.Goals as goal
+use Rattle.tbl_text.proofs.wide.bar_lanes.Goals as goal
 
 pub returns : goal.returns
 returns c =
