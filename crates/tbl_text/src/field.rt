@@ -83,24 +83,13 @@ pub(crate) fn flag_of(field: &[u8]) -> Option<Flag>
     }
 }
 
-// As above.
 #[inline(always)]
 pub(crate) fn status_of(field: &[u8]) -> Option<LineStatus>
     ensures { result ≡ status_value field.now }
 {
     match field {
-        [letter] => {
-            let is_open = *letter == b'O';
-            let is_status = is_open | (*letter == b'F');
-            if !is_status {
-                return None;
-            }
-            Some(if is_open {
-                LineStatus::O
-            } else {
-                LineStatus::F
-            })
-        }
+        b"F" => Some(LineStatus::F),
+        b"O" => Some(LineStatus::O),
         _ => None,
     }
 }
