@@ -1,11 +1,12 @@
 -- The digits at the front of a field.
-use Rattle.std.proofs.Common.{◌≡◌, ℕ, ◌<◌, ◌≤◌, true, List, [], ◌∷◌, length, take, drop, None, Some, refl, sym, ap, ◌∙◌, inl, inr, arith}
+use Rattle.std.proofs.Common.{◌≡◌, ℕ, ◌+◌, ◌-◌, ◌*◌, ◌^◌, ◌<◌, ◌≤◌, true, false, leb, List, [], ◌∷◌, ◌++◌, length, get_or, take, drop, None, Some, refl, sym, ap, ◌∙◌, inl, inr, arith}
 use Rattle.std.specs.List.{AllPass, list_all, prefix_len}
-use Rattle.std.proofs.lemmas.Bool.{cases_Bool, and_parts, le-leb}
-use Rattle.std.proofs.lemmas.List.{get_or-take, length-drop}
+use Rattle.std.proofs.lemmas.Bool.{cases_Bool, and_parts, leb-true, le-leb}
+use Rattle.std.proofs.lemmas.List.{get_or-take, length-take, length-drop, take_more}
+use Rattle.std.proofs.lemmas.Nat.{pow-add}
 use Rattle.std.proofs.lemmas.List.Folds.{length-prefix_len}
-use Rattle.std.proofs.lemmas.List.Sums.{prefix_len_passes, take_while-cons, list_all-from_AllPass}
-use Rattle.tbl_text.specs.Field.{is_digit, spelled, leading_digits, after_digits, integer_value}
+use Rattle.std.proofs.lemmas.List.Sums.{prefix_len_is, prefix_len_passes, take_while-cons, list_all-from_AllPass}
+use Rattle.tbl_text.specs.Field.{is_digit, spelled_after, spelled, leading_digits, after_digits, integer_value}
 
 -- the front is digits
 pub AllPass-leading_digits : (bytes : List ℕ) → AllPass is_digit (leading_digits bytes)
@@ -51,3 +52,28 @@ integer_value-more field more =
       | inl digits ↦ absurd (omega (arith, length-drop (length (leading_digits field)) field, ap length (leading_digits-digits field digits)))
       | inr odd ↦ rw odd refl
     ]
+
+-- ---- one digit after another
+
+spelled_after-append : (n : ℕ) (digits : List ℕ) (b : ℕ) → spelled_after n (digits ++ b ∷ []) ≡ spelled_after n digits * 10 + (b - 48)
+spelled_after-append n [] b = refl
+spelled_after-append n (d ∷ digits) b = spelled_after-append (n * 10 + (d - 48)) digits b
+
+-- one digit more
+pub spelled_more : (bytes : List ℕ) (at : ℕ) → at < length bytes → spelled (take (at + 1) bytes) ≡ spelled (take at bytes) * 10 + (get_or bytes at 0 - 48)
+spelled_more bytes at within = ap spelled (take_more bytes at 0 within) ∙ spelled_after-append 0 (take at bytes) (get_or bytes at 0)
+
+-- a digit's value
+pub digit_value : (b : ℕ) → is_digit b ≡ true → b - 48 ≤ 9
+digit_value b digit = omega (arith, leb-true b 57 (and_parts (leb 48 b) (leb b 57) digit).1)
+
+-- and they spell a number of one digit more
+pub spelled_fits : (number digit at : ℕ) → number < 10 ^ at → digit ≤ 9 → number * 10 + digit < 10 ^ (at + 1)
+spelled_fits number digit at fits is_digit = omega (arith, pow-add 10 at 1)
+
+-- digits up to a place where none stands are those at the front
+pub front_digits : (bytes : List ℕ) (at number : ℕ) → at < length bytes → ((k : ℕ) → k < at → is_digit (get_or bytes k 0) ≡ true) → is_digit (get_or bytes at 0) ≡ false
+    → 1 ≤ at → at ≤ 10 → number ≡ spelled (take at bytes) → (integer_value (leading_digits bytes) ≡ Some number) × (drop at bytes ≡ after_digits bytes)
+front_digits bytes at number within before stops low high value =
+    let len : length (take at bytes) ≡ at = omega (arith, length-take at bytes) in
+    front_read bytes (take at bytes) (drop at bytes) at number (sym (prefix_len_is is_digit bytes at 0 (omega arith) before (λ _. stops))) refl refl (omega arith) (omega arith) value

@@ -1,9 +1,14 @@
 -- The first line is the first piece, and what follows its LF has the other pieces.
-use Rattle.std.proofs.Common.{◌≡◌, ◌≢◌, ℕ, ◌+◌, ◌-◌, ◌≤◌, suc, Bool, true, false, cond, not, ◌==◌, List, [], ◌∷◌, length, take, drop, min, slice_index, Option, Some, None, unwrap_or, refl, sym, ap, arith}
-use Rattle.std.proofs.lemmas.Bool.{false_from_ne_true}
-use Rattle.std.proofs.lemmas.List.{drop_min, take_min, length-take, length-take-le, take-take}
-use Rattle.std.proofs.lemmas.List.Sums.{position_or_len_is}
+use Rattle.std.proofs.Common.{◌≡◌, ◌≢◌, ℕ, ◌+◌, ◌-◌, ◌<◌, ◌≤◌, suc, Bool, true, false, cond, not, ◌==◌, List, [], ◌∷◌, ◌++◌, map, eqb, leb, length, get_or, take, drop, min, slice_index, Option, Some, None, unwrap_or, refl, sym, ap, ◌∙◌, append_assoc, inl, inr, arith}
+use Rattle.std.proofs.Math.Seq.{take-append_seam, get_or-append_seam}
+use Rattle.std.proofs.lemmas.Bool.{false_from_ne_true, and_parts, leb-true, ne_eqb}
+use Rattle.std.proofs.lemmas.List.{drop_min, take_min, length-take, length-append, length-take-le, take-take}
+use Rattle.std.proofs.lemmas.List.Elements.{All-nil, All-cons, All-append}
+use Rattle.std.proofs.lemmas.List.Sums.{position_or_len_is, AllPass-from_list_all}
 use Rattle.memchr.specs.Find.{IsFirstByte, is_byte}
+use Rattle.tbl_text.specs.Cursor.{IsEnd}
+use Rattle.tbl_text.specs.Field.{is_text_byte, is_text}
+use Rattle.tbl_text.proofs.Bars.{IsFree, pieces-separator}
 use Rattle.tbl_text.specs.Lines.{pieces, onto_first, lines_of, line_end, without_cr}
 
 -- the first LF, or else the number of bytes
@@ -45,3 +50,39 @@ take-without_cr end bytes = take-cond end bytes (slice_index (take end bytes) (l
 pub lines_of-first : (bytes : List ℕ) → bytes ≢ [] → lines_of bytes ≡ take (length (without_cr (take (line_end bytes) bytes))) bytes ∷ lines_of (drop (min (line_end bytes + 1) (length bytes)) bytes)
 lines_of-first bytes some =
     rw (pieces-first bytes some, drop_min (line_end bytes + 1) bytes) (ap (λ line. line ∷ lines_of (drop (line_end bytes + 1) bytes)) (take-without_cr (line_end bytes) bytes))
+
+-- ---- a line of text
+
+-- text has none of the bytes that end a line
+text_free : (separator : ℕ) (line : List ℕ) → separator < 32 → is_text line ≡ true → IsFree separator line
+text_free separator line low text k d below =
+    let byte = AllPass-from_list_all is_text_byte line text k d below in
+    ne_eqb (get_or line k d) separator (λ same. absurd (omega (arith, leb-true 32 (get_or line k d) (and_parts (leb 32 (get_or line k d)) _ byte).0)))
+
+-- the last byte of text is no CR
+without_cr-text : (line : List ℕ) → is_text line ≡ true → without_cr line ≡ line
+without_cr-text [] text = refl
+without_cr-text (b ∷ line) text =
+    let last : eqb (get_or (b ∷ line) (length (b ∷ line) - 1) 0) 13 ≡ false = text_free 13 (b ∷ line) (omega arith) text (length (b ∷ line) - 1) 0 (omega arith) in
+    rw last refl
+
+-- a CR at the end is no part of a line
+without_cr-cr : (line : List ℕ) → without_cr (line ++ 13 ∷ []) ≡ line
+without_cr-cr line =
+    let len : length (line ++ 13 ∷ []) - 1 ≡ length line = omega (arith, length-append line (13 ∷ [])) in
+    rw (len, get_or-append_seam line 13 [] 0) (take-append_seam line (13 ∷ []))
+
+-- text up to a line's end is the first line
+pub lines_of-text : (bytes line back rest : List ℕ) → bytes ≡ line ++ back → is_text line ≡ true → IsEnd back rest → lines_of bytes ≡ line ∷ lines_of rest
+lines_of-text bytes line back rest cut text (inl lf) =
+    ap lines_of (cut ∙ ap (λ b. line ++ b) lf) ∙ ap (map without_cr) (pieces-separator 10 line rest (text_free 10 line (omega arith) text))
+    ∙ ap (λ l. l ∷ lines_of rest) (without_cr-text line text)
+lines_of-text bytes line back rest cut text (inr crlf) =
+    let free : IsFree 10 (line ++ 13 ∷ []) = All-append (λ b. eqb b 10 ≡ false) line (13 ∷ []) (text_free 10 line (omega arith) text) (All-cons (λ b. eqb b 10 ≡ false) 13 [] refl (All-nil (λ b. eqb b 10 ≡ false))) in
+    ap lines_of (cut ∙ ap (λ b. line ++ b) crlf ∙ sym (append_assoc line (13 ∷ []) (10 ∷ rest))) ∙ ap (map without_cr) (pieces-separator 10 (line ++ 13 ∷ []) rest free)
+    ∙ ap (λ l. l ∷ lines_of rest) (without_cr-cr line)
+
+-- and what follows it is shorter than all
+pub end_shorter : (bytes line back rest : List ℕ) → bytes ≡ line ++ back → IsEnd back rest → length rest < length bytes
+end_shorter bytes line back rest cut (inl lf) = omega (arith, ap length cut, length-append line back, ap length lf)
+end_shorter bytes line back rest cut (inr crlf) = omega (arith, ap length cut, length-append line back, ap length crlf)

@@ -4,8 +4,10 @@ pub mod Digits
 pub mod Faults
 pub mod FirstLine
 pub mod FirstRepeat
+pub mod Lanes
 pub mod ReadLines
 pub mod RisingKeys
+pub mod Runs
 pub mod SortedEntries
 pub mod SortedKeys
 pub mod Taking

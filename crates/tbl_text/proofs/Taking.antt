@@ -1,22 +1,35 @@
 -- What a reader takes from the front of a line.
-use Rattle.std.proofs.Common.{◌≡◌, ℕ, ◌+◌, ◌-◌, ◌*◌, ◌≤◌, Bool, true, false, cond, ◌&&◌, eqb, leb, List, [], ◌∷◌, ◌++◌, length, get_or, take, drop, count_by, Option, None, Some, refl, sym, ap, ◌∙◌, append_assoc, ◌⊎◌, inl, inr, arith}
+use Rattle.std.proofs.Common.{◌≡◌, ℕ, ◌+◌, ◌-◌, ◌*◌, ◌<◌, ◌≤◌, Bool, true, false, cond, not, ◌&&◌, eqb, leb, List, [], ◌∷◌, ◌++◌, length, get_or, take, drop, count_by, ap₂, Option, None, Some, refl, sym, ap, ◌∙◌, append_assoc, ◌⊎◌, inl, inr, arith}
 use Rattle.std.specs.Prelude.{IfSome}
 use Rattle.std.specs.List.{AllPass, list_all, prefix_len}
-use Rattle.std.proofs.lemmas.Bool.{and_parts, and_from, leb-true, le-leb, ne_eqb, eqb-true}
-use Rattle.std.proofs.lemmas.List.{append-nil, drop_at, take-append-drop}
-use Rattle.std.proofs.lemmas.List.Elements.{All-from_recursion, All-nil, All-cons, All-head, All-tail, All-append}
+use Rattle.std.proofs.lemmas.Bool.{and_parts, and_from, not-true, leb-true, le-leb, ne_eqb, eqb-true}
+use Rattle.std.proofs.lemmas.List.{append-nil, drop_at, get_or-take, take-append-drop}
+use Rattle.std.proofs.lemmas.List.Elements.{All-nil, All-cons, All-head, All-tail, All-append}
 use Rattle.std.proofs.lemmas.List.Folds.{length-prefix_len}
-use Rattle.std.proofs.lemmas.List.Sums.{take_while-cons, AllPass-from_list_all, list_all-from_AllPass}
-use Rattle.tbl_text.specs.Cursor.{Takes, IsTail}
+use Rattle.std.proofs.lemmas.List.Sums.{prefix_len_passes, take_while-cons, AllPass-from_list_all, list_all-from_AllPass}
+use Rattle.tbl_text.specs.Cursor.{is_field_byte, Takes, IsTail, IsEnd, EndsLine}
 use Rattle.tbl_text.specs.Field.{is_digit, IsPair, leading_digits, after_digits, integer_value, hundredths_value, money_value, is_no_decimals, quantity_value, date_value, is_text_byte, is_text}
 use Rattle.tbl_text.specs.Lines.{onto_first, pieces, fields_of}
-use Rattle.tbl_text.proofs.Bars.{IsFree, pieces-separator, length-fields_of-ended, length-fields_of-open}
+use Rattle.tbl_text.proofs.Bars.{IsFree, length-fields_of-ended, length-fields_of-open}
 use Rattle.tbl_text.proofs.Digits.{AllPass-leading_digits}
 
--- a field with no bar is taken where a bar follows it
-pub takes_field : {A : Type 0} (read : List ℕ → A) (old field new : List ℕ) (value : A) → old ≡ field ++ 124 ∷ new → IsFree 124 field → read field ≡ value → Takes read old new value
-takes_field read old field new value cut free reads =
-    record { field = field; cut = ap (pieces 124) cut ∙ pieces-separator 124 field new free; reads = reads }
+-- a field's bytes are text and no bars
+pub clean_text : (field : List ℕ) → AllPass is_field_byte field → AllPass is_text_byte field
+clean_text field clean k d below = (and_parts (is_text_byte (get_or field k d)) _ (clean k d below)).0
+
+pub clean_free : (field : List ℕ) → AllPass is_field_byte field → IsFree 124 field
+clean_free field clean k d below = not-true _ (and_parts (is_text_byte (get_or field k d)) _ (clean k d below)).1
+
+-- text that is no bar may stand in a field
+field_byte : (b : ℕ) → is_text_byte b ≡ true → eqb b 124 ≡ false → is_field_byte b ≡ true
+field_byte b text no_bar = and_from (is_text_byte b) (not (eqb b 124)) text (rw no_bar refl)
+
+-- bytes that are given one by one may stand in a field
+clean_bytes : (field : List ℕ) → list_all is_field_byte field ≡ true → AllPass is_field_byte field
+clean_bytes field all = AllPass-from_list_all is_field_byte field all
+
+takes_field : {A : Type 0} (read : List ℕ → A) (old field new : List ℕ) (value : A) → old ≡ field ++ 124 ∷ new → AllPass is_field_byte field → read field ≡ value → Takes read old new value
+takes_field read old field new value cut clean reads = record { field = field; cut = cut; clean = clean; reads = reads }
 
 -- ---- digits
 
@@ -32,24 +45,27 @@ digit_text b digit =
     let high = leb-true b 57 parts.1 in
     and_from (leb 32 b) (leb b 126) (le-leb 32 b (omega arith)) (le-leb b 126 (omega arith))
 
--- digits have no bar
-digits_free : (digits : List ℕ) → AllPass is_digit digits → IsFree 124 digits
-digits_free digits all k d below = digit_no_bar (get_or digits k d) (all k d below)
+-- a digit may stand in a field
+digit_field : (b : ℕ) → is_digit b ≡ true → is_field_byte b ≡ true
+digit_field b digit = field_byte b (digit_text b digit) (digit_no_bar b digit)
+
+digits_clean : (digits : List ℕ) → AllPass is_digit digits → AllPass is_field_byte digits
+digits_clean digits all k d below = digit_field (get_or digits k d) (all k d below)
 
 -- the same, where a test says that they are digits
-numerals_free : (digits : List ℕ) → list_all is_digit digits ≡ true → IsFree 124 digits
-numerals_free digits all = digits_free digits (AllPass-from_list_all is_digit digits all)
+numerals_clean : (digits : List ℕ) → list_all is_digit digits ≡ true → AllPass is_field_byte digits
+numerals_clean digits all = digits_clean digits (AllPass-from_list_all is_digit digits all)
 
--- a hyphen is no bar
-hyphen_free : (b : ℕ) → eqb b 45 ≡ true → eqb b 124 ≡ false
-hyphen_free b hyphen = ne_eqb b 124 (λ bar. absurd (omega (arith, eqb-true b 45 hyphen)))
+-- a byte that a test finds may stand in a field, where the byte that it looks for may
+same_clean : (b c : ℕ) → eqb b c ≡ true → is_field_byte c ≡ true → is_field_byte b ≡ true
+same_clean b c same clean = rw (eqb-true b c same) clean
 
 -- digits are text
 pub takes_digits : (old field new : List ℕ) (count : ℕ) → count ≡ prefix_len is_digit old → field ≡ take count old → old ≡ field ++ 124 ∷ new → Takes is_text old new true
 takes_digits old field new count many front cut =
     let is : field ≡ leading_digits old = front ∙ ap (λ n. take n old) many in
     let all : AllPass is_digit field = rw is (AllPass-leading_digits old) in
-    takes_field is_text old field new true cut (digits_free field all)
+    takes_field is_text old field new true cut (digits_clean field all)
     (list_all-from_AllPass is_text_byte field (λ k d below. digit_text (get_or field k d) (all k d below)))
 
 -- digits, where no digit follows them, are the digits at the front
@@ -71,37 +87,37 @@ leading-after bytes =
     sym (take-append-drop (prefix_len is_digit bytes) bytes) ∙ ap (λ n. leading_digits bytes ++ drop n bytes) (sym (length-prefix_len is_digit bytes))
 
 -- digits at the front and what decimals follow them
-takes_number : {A : Type 0} (read : List ℕ → A) (old rest decimals new : List ℕ) (value : A) → rest ≡ after_digits old → rest ≡ decimals ++ 124 ∷ new → IsFree 124 decimals
+takes_number : {A : Type 0} (read : List ℕ → A) (old rest decimals new : List ℕ) (value : A) → rest ≡ after_digits old → rest ≡ decimals ++ 124 ∷ new → AllPass is_field_byte decimals
     → read (leading_digits old ++ decimals) ≡ value → Takes read old new value
-takes_number read old rest decimals new value is_rest cut free reads =
+takes_number read old rest decimals new value is_rest cut clean reads =
     let all = AllPass-leading_digits old in
     let whole : old ≡ (leading_digits old ++ decimals) ++ 124 ∷ new =
     leading-after old ∙ ap (λ r. leading_digits old ++ r) (sym is_rest ∙ cut) ∙ sym (append_assoc (leading_digits old) decimals (124 ∷ new)) in
     takes_field read old (leading_digits old ++ decimals) new value whole
-    (All-append (λ b. eqb b 124 ≡ false) (leading_digits old) decimals (digits_free (leading_digits old) all) free) reads
+    (All-append (λ b. is_field_byte b ≡ true) (leading_digits old) decimals (digits_clean (leading_digits old) all) clean) reads
 
 -- with nothing behind the digits
 pub takes_integer : (old rest new : List ℕ) (n : ℕ) → integer_value (leading_digits old) ≡ Some n → rest ≡ after_digits old → rest ≡ 124 ∷ new → Takes integer_value old new (Some n)
 takes_integer old rest new n is is_rest cut =
-    takes_number integer_value old rest [] new (Some n) is_rest cut (All-nil (λ b. eqb b 124 ≡ false)) (ap integer_value (append-nil (leading_digits old)) ∙ is)
+    takes_number integer_value old rest [] new (Some n) is_rest cut (All-nil (λ b. is_field_byte b ≡ true)) (ap integer_value (append-nil (leading_digits old)) ∙ is)
 
 -- with decimals that say nothing
-takes_zeros : (old rest decimals new : List ℕ) (n : ℕ) → integer_value (leading_digits old) ≡ Some n → rest ≡ after_digits old → rest ≡ decimals ++ 124 ∷ new → IsFree 124 decimals
+takes_zeros : (old rest decimals new : List ℕ) (n : ℕ) → integer_value (leading_digits old) ≡ Some n → rest ≡ after_digits old → rest ≡ decimals ++ 124 ∷ new → AllPass is_field_byte decimals
     → leading_digits decimals ≡ [] → is_no_decimals decimals ≡ true → Takes quantity_value old new (Some n)
-takes_zeros old rest decimals new n is is_rest cut free stop none =
+takes_zeros old rest decimals new n is is_rest cut clean stop none =
     let all = AllPass-leading_digits old in
     let reads : quantity_value (leading_digits old ++ decimals) ≡ Some n =
     rw (after_digits-append (leading_digits old) decimals all stop, leading_digits-append (leading_digits old) decimals all stop, none) is in
-    takes_number quantity_value old rest decimals new (Some n) is_rest cut free reads
+    takes_number quantity_value old rest decimals new (Some n) is_rest cut clean reads
 
 -- with nothing, or with .00
 pub takes_quantity : (old rest after new : List ℕ) (n : ℕ) → integer_value (leading_digits old) ≡ Some n → rest ≡ after_digits old → (rest ≡ after) ⊎ (rest ≡ 46 ∷ 48 ∷ 48 ∷ after) → after ≡ 124 ∷ new
     → Takes quantity_value old new (Some n)
 takes_quantity old rest after new n is is_rest (inl none) cut =
-    takes_zeros old rest [] new n is is_rest (none ∙ cut) (All-nil (λ b. eqb b 124 ≡ false)) refl refl
+    takes_zeros old rest [] new n is is_rest (none ∙ cut) (All-nil (λ b. is_field_byte b ≡ true)) refl refl
 takes_quantity old rest after new n is is_rest (inr zeros) cut =
     takes_zeros old rest (46 ∷ 48 ∷ 48 ∷ []) new n is is_rest (zeros ∙ ap (λ r. 46 ∷ 48 ∷ 48 ∷ r) cut)
-    (All-from_recursion (λ b. eqb b 124 ≡ false) (46 ∷ 48 ∷ 48 ∷ []) (refl, (refl, (refl, tt)))) refl refl
+    (clean_bytes (46 ∷ 48 ∷ 48 ∷ []) refl) refl refl
 
 -- a point and two digits
 hundredths_value-pair : (tens ones n : ℕ) → IsPair tens ones n → hundredths_value (46 ∷ tens ∷ ones ∷ []) ≡ Some n
@@ -113,10 +129,29 @@ pub takes_money : (old rest after new : List ℕ) (n tens ones hundredths : ℕ)
 takes_money old rest after new n tens ones hundredths is is_rest behind pair cut =
     let decimals = 46 ∷ tens ∷ ones ∷ [] in
     let all = AllPass-leading_digits old in
-    let free : IsFree 124 decimals = All-from_recursion (λ b. eqb b 124 ≡ false) decimals (refl, (digit_no_bar tens pair.tens_digit, (digit_no_bar ones pair.ones_digit, tt))) in
+    let clean : AllPass is_field_byte decimals = clean_bytes decimals (rw (digit_field tens pair.tens_digit, digit_field ones pair.ones_digit) refl) in
     let reads : money_value (leading_digits old ++ decimals) ≡ Some (n * 100 + hundredths) =
     rw (after_digits-append (leading_digits old) decimals all refl, leading_digits-append (leading_digits old) decimals all refl, is, hundredths_value-pair tens ones hundredths pair) refl in
-    takes_number money_value old rest decimals new (Some (n * 100 + hundredths)) is_rest (behind ∙ ap (λ r. 46 ∷ tens ∷ ones ∷ r) cut) free reads
+    takes_number money_value old rest decimals new (Some (n * 100 + hundredths)) is_rest (behind ∙ ap (λ r. 46 ∷ tens ∷ ones ∷ r) cut) clean reads
+
+-- below one, with one digit and two decimals
+pub takes_hundredths : (old new : List ℕ) (tens ones n : ℕ) → old ≡ 48 ∷ 46 ∷ tens ∷ ones ∷ 124 ∷ new → IsPair tens ones n → Takes money_value old new (Some n)
+takes_hundredths old new tens ones n cut pair =
+    let reads : money_value (48 ∷ 46 ∷ tens ∷ ones ∷ []) ≡ Some n = rw (pair.tens_digit, pair.ones_digit) (ap Some (omega (arith, pair.value))) in
+    takes_field money_value old (48 ∷ 46 ∷ tens ∷ ones ∷ []) new (Some n) cut
+    (clean_bytes (48 ∷ 46 ∷ tens ∷ ones ∷ []) (rw (digit_field tens pair.tens_digit, digit_field ones pair.ones_digit) refl)) reads
+
+-- an integer of one digit
+pub takes_digit : (old new : List ℕ) (digit n : ℕ) → old ≡ digit ∷ 124 ∷ new → is_digit digit ≡ true → n ≡ digit - 48 → Takes integer_value old new (Some n)
+takes_digit old new digit n cut is value =
+    let reads : integer_value (digit ∷ []) ≡ Some n = rw is (ap Some (omega (arith, value))) in
+    takes_field integer_value old (digit ∷ []) new (Some n) cut (clean_bytes (digit ∷ []) (rw (digit_field digit is) refl)) reads
+
+-- a letter
+pub takes_letter : {A : Type 0} (read : List ℕ → Option A) (old field new : List ℕ) (found : Option A) → old ≡ field ++ 124 ∷ new → found ≡ read field
+    → ((value : A) → read field ≡ Some value → AllPass is_field_byte field) → IfSome found (λ value. Takes read old new (Some value))
+takes_letter read old field new None cut is clean = tt
+takes_letter read old field new (Some value) cut is clean = takes_field read old field new (Some value) cut (clean value (sym is)) (sym is)
 
 -- ---- dates
 
@@ -125,9 +160,9 @@ when_some : (t : Bool) (o : Option ℕ) (n : ℕ) → cond t o None ≡ Some n �
 when_some true o n is = refl
 when_some false o n is = absurd cc
 
--- a date has no bar
-date_free : (field : List ℕ) (day : ℕ) → date_value field ≡ Some day → IsFree 124 field
-date_free (a ∷ b ∷ c ∷ d ∷ hyphen ∷ e ∷ f ∷ dash ∷ g ∷ h ∷ []) day is =
+-- a date is digits and hyphens
+pub date_clean : (field : List ℕ) (day : ℕ) → date_value field ≡ Some day → AllPass is_field_byte field
+date_clean (a ∷ b ∷ c ∷ d ∷ hyphen ∷ e ∷ f ∷ dash ∷ g ∷ h ∷ []) day is =
     let year = a ∷ b ∷ c ∷ d ∷ [] in
     let month = e ∷ f ∷ [] in
     let date = g ∷ h ∷ [] in
@@ -136,17 +171,16 @@ date_free (a ∷ b ∷ c ∷ d ∷ hyphen ∷ e ∷ f ∷ dash ∷ g ∷ h ∷ [
     let upto_year = and_parts _ _ upto_month.0 in
     let hyphens = and_parts _ _ upto_year.0 in
     let both = and_parts (eqb hyphen 45) (eqb dash 45) hyphens.0 in
-    let free : ℕ → Type 0 = λ b. eqb b 124 ≡ false in
-    All-append free year (hyphen ∷ month ++ dash ∷ date) (numerals_free year hyphens.1)
-    (All-cons free hyphen (month ++ dash ∷ date) (hyphen_free hyphen both.0)
-    (All-append free month (dash ∷ date) (numerals_free month upto_year.1)
-    (All-cons free dash date (hyphen_free dash both.1) (numerals_free date upto_month.1))))
-date_free field day is = absurd cc
+    let clean : ℕ → Type 0 = λ b. is_field_byte b ≡ true in
+    All-append clean year (hyphen ∷ month ++ dash ∷ date) (numerals_clean year hyphens.1)
+    (All-cons clean hyphen (month ++ dash ∷ date) (same_clean hyphen 45 both.0 refl)
+    (All-append clean month (dash ∷ date) (numerals_clean month upto_year.1)
+    (All-cons clean dash date (same_clean dash 45 both.1 refl) (numerals_clean date upto_month.1))))
+date_clean field day is = absurd cc
 
--- what was found is a date that is taken
+-- what was found is a field that is taken
 pub takes_date : (old field new : List ℕ) (found : Option ℕ) → old ≡ field ++ 124 ∷ new → found ≡ date_value field → IfSome found (λ day. Takes date_value old new (Some day))
-takes_date old field new None cut is = tt
-takes_date old field new (Some day) cut is = takes_field date_value old field new (Some day) cut (date_free field day (sym is)) (sym is)
+takes_date old field new found cut is = takes_letter date_value old field new found cut is (date_clean field)
 
 -- ---- the end of a line
 
@@ -175,3 +209,24 @@ tail_ended bytes bars ended count text five = five_texts bytes (sym (length-fiel
 -- the same, where no bar ends the bytes
 pub tail_open : (bytes : List ℕ) (bars : ℕ) → ((1 ≤ length bytes) × (get_or bytes (length bytes - 1) 0 ≡ 124) → ⊥) → bars ≡ count_by (λ b. eqb b 124) bytes → is_text bytes ≡ true → bars ≡ 4 → IsTail bytes
 tail_open bytes bars open' count text four = five_texts bytes (sym (length-fields_of-open bytes open') ∙ ap (λ n. n + 1) (sym count ∙ four)) text
+
+-- ---- text at the front
+
+-- the text at the front is text
+pub front_text : (bytes : List ℕ) → is_text (take (prefix_len is_text_byte bytes) bytes) ≡ true
+front_text bytes =
+    let len = prefix_len is_text_byte bytes in
+    list_all-from_AllPass is_text_byte (take len bytes) (λ k d below.
+    let within : k < len = omega (arith, length-prefix_len is_text_byte bytes) in
+    rw (get_or-take len bytes k d within) (prefix_len_passes is_text_byte bytes k d within))
+
+-- five fields and a line's end
+pub ends_line : (old tail back new : List ℕ) (len : ℕ) → len ≡ prefix_len is_text_byte old → tail ≡ take len old → back ≡ drop len old → IsTail tail → IsEnd back new → EndsLine old new
+ends_line old tail back new len count front rest fields end = record {
+  tail = tail;
+  back = back;
+  cut = sym (take-append-drop len old) ∙ ap₂ (λ a b. a ++ b) (sym front) (sym rest);
+  text = rw (front, count) (front_text old);
+  fields = fields;
+  end = end;
+}

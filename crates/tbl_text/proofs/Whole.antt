@@ -1,16 +1,22 @@
 -- A line whose fields were all taken has their value.
-use Rattle.std.proofs.Common.{◌≡◌, ℕ, ◌≤◌, true, List, [], ◌∷◌, length, Option, Some, Ok, refl, ap, ◌∙◌, arith}
+use Rattle.std.proofs.Common.{◌≡◌, ℕ, ◌≤◌, true, List, [], ◌∷◌, ◌++◌, length, Option, Some, Ok, refl, sym, ap, ◌∙◌, append_assoc, arith}
 use Rattle.std.specs.List.{list_all}
 use Rattle.std.specs.Prelude.{ok_or}
 use Rattle.std.proofs.lemmas.Bool.{and_parts, le-leb}
+use Rattle.std.proofs.lemmas.List.Elements.{All-cons, All-append}
+use Rattle.std.proofs.lemmas.List.Sums.{AllPass-from_list_all, list_all-from_AllPass}
 use Rattle.cubit_base.specs.Key.{KeyValue, IsKey}
 use Rattle.cubit_base.specs.Tuple.{TupleValue, IsTuple}
 use Rattle.tbl_text.specs.declared.line.LineFault.{LineFault}
 use Rattle.tbl_text.specs.declared.line.LineFault.TheVariants as fault
-use Rattle.tbl_text.specs.Cursor.{Takes, IsTail}
-use Rattle.tbl_text.specs.Field.{integer_value, money_value, quantity_value, date_value, flag_value, status_value, is_text}
-use Rattle.tbl_text.specs.Line.{within, text, fields_value, line_value}
+use Rattle.tbl_text.specs.Cursor.{Takes, EndsLine}
+use Rattle.tbl_text.specs.Field.{integer_value, money_value, quantity_value, date_value, flag_value, status_value, is_text_byte, is_text}
+use Rattle.tbl_text.specs.Line.{within, text, fields_value}
 use Rattle.tbl_text.specs.Lines.{pieces, fields_of}
+use Rattle.tbl_text.specs.Reading.{Begins}
+use Rattle.tbl_text.proofs.Bars.{pieces-separator}
+use Rattle.tbl_text.proofs.FirstLine.{lines_of-text, end_shorter}
+use Rattle.tbl_text.proofs.Taking.{clean_text, clean_free}
 
 -- a number within the bounds
 within-some : (low high n : ℕ) (number : Option ℕ) (f : LineFault) → number ≡ Some n → low ≤ n → n ≤ high → within low high number f ≡ Ok n
@@ -62,15 +68,38 @@ fields_of-some : (line field : List ℕ) (others : List (List ℕ)) → pieces 1
 fields_of-some [] field others is = absurd cc
 fields_of-some (b ∷ line) field others is = is
 
--- the line whose fields were taken one after another
-pub line_value-taken : (line r1 r2 r3 r4 r5 r6 r7 r8 r9 r10 tail : List ℕ) (key : KeyValue) (t : TupleValue)
-    → Takes integer_value line r1 (Some key.order) → Takes is_text r1 r2 true → Takes is_text r2 r3 true → Takes integer_value r3 r4 (Some key.line)
+-- old begins with the text of these fields, and back is what follows them
+record Front (back old : List ℕ) (fields : List (List ℕ)) : Type 0 where
+  line : List ℕ
+  cut : old ≡ line ++ back
+  text : is_text line ≡ true
+  fields_are : pieces 124 line ≡ fields
+
+-- one field more in front
+front_more : {A : Type 0} {read : List ℕ → A} {back old new : List ℕ} {fields : List (List ℕ)} {value : A} (taken : Takes read old new value) → Front back new fields → Front back old (taken.field ∷ fields)
+front_more {back = back} taken front = record {
+  line = taken.field ++ 124 ∷ front.line;
+  cut = taken.cut ∙ ap (λ rest. taken.field ++ 124 ∷ rest) front.cut ∙ sym (append_assoc taken.field (124 ∷ front.line) back);
+  text = list_all-from_AllPass is_text_byte (taken.field ++ 124 ∷ front.line)
+      (All-append (λ b. is_text_byte b ≡ true) taken.field (124 ∷ front.line) (clean_text taken.field taken.clean)
+      (All-cons (λ b. is_text_byte b ≡ true) 124 front.line refl (AllPass-from_list_all is_text_byte front.line front.text)));
+  fields_are = pieces-separator 124 taken.field front.line (clean_free taken.field taken.clean) ∙ ap (λ others. taken.field ∷ others) front.fields_are;
+}
+
+-- the line whose fields were taken one after another is the first, and has their value
+pub begins-taken : (bytes r1 r2 r3 r4 r5 r6 r7 r8 r9 r10 r11 rest : List ℕ) (key : KeyValue) (t : TupleValue)
+    → Takes integer_value bytes r1 (Some key.order) → Takes is_text r1 r2 true → Takes is_text r2 r3 true → Takes integer_value r3 r4 (Some key.line)
     → Takes quantity_value r4 r5 (Some t.qty) → Takes money_value r5 r6 (Some t.price) → Takes money_value r6 r7 (Some t.disc) → Takes money_value r7 r8 (Some t.tax)
-    → Takes flag_value r8 r9 (Some t.flag) → Takes status_value r9 r10 (Some t.status) → Takes date_value r10 tail (Some t.day) → IsTail tail
-    → IsKey key → key.order ≤ 4_294_967_295 → IsTuple t → line_value line ≡ Ok (key, t)
-line_value-taken line r1 r2 r3 r4 r5 r6 r7 r8 r9 r10 tail key t t1 t2 t3 t4 t5 t6 t7 t8 t9 t10 t11 end is_key fits is_tuple =
-    let others : pieces 124 r1 ≡ t2.field ∷ t3.field ∷ t4.field ∷ t5.field ∷ t6.field ∷ t7.field ∷ t8.field ∷ t9.field ∷ t10.field ∷ t11.field ∷ pieces 124 tail =
-    rw (t2.cut, t3.cut, t4.cut, t5.cut, t6.cut, t7.cut, t8.cut, t9.cut, t10.cut, t11.cut) refl in
-    ap fields_value (fields_of-some line t1.field (pieces 124 r1) t1.cut ∙ ap (λ fields. t1.field ∷ fields) others)
-    ∙ fields_value-taken t1.field t2.field t3.field t4.field t5.field t6.field t7.field t8.field t9.field t10.field t11.field (pieces 124 tail) key t
-    t1.reads t2.reads t3.reads t4.reads t5.reads t6.reads t7.reads t8.reads t9.reads t10.reads t11.reads end.count end.texts is_key fits is_tuple
+    → Takes flag_value r8 r9 (Some t.flag) → Takes status_value r9 r10 (Some t.status) → Takes date_value r10 r11 (Some t.day) → EndsLine r11 rest
+    → IsKey key → key.order ≤ 4_294_967_295 → IsTuple t → Begins bytes rest (Ok (key, t))
+begins-taken bytes r1 r2 r3 r4 r5 r6 r7 r8 r9 r10 r11 rest key t t1 t2 t3 t4 t5 t6 t7 t8 t9 t10 t11 end is_key fits is_tuple =
+    let tail : Front end.back r11 (pieces 124 end.tail) = record { line = end.tail; cut = end.cut; text = end.text; fields_are = refl } in
+    let front = front_more t1 (front_more t2 (front_more t3 (front_more t4 (front_more t5 (front_more t6 (front_more t7 (front_more t8 (front_more t9 (front_more t10 (front_more t11 tail)))))))))) in
+    record {
+      line = front.line;
+      lines = lines_of-text bytes front.line end.back rest front.cut front.text end.end;
+      value = ap fields_value (fields_of-some front.line _ _ front.fields_are)
+          ∙ fields_value-taken t1.field t2.field t3.field t4.field t5.field t6.field t7.field t8.field t9.field t10.field t11.field (pieces 124 end.tail) key t
+          t1.reads t2.reads t3.reads t4.reads t5.reads t6.reads t7.reads t8.reads t9.reads t10.reads t11.reads end.fields.count end.fields.texts is_key fits is_tuple;
+      shorter = end_shorter bytes front.line end.back rest front.cut end.end;
+    }

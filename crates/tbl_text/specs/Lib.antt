@@ -6,3 +6,4 @@ pub mod Line
 pub mod Lines
 pub mod Reading
 pub mod Repeats
+pub mod Wide

@@ -7,6 +7,7 @@ use Rattle.tbl_text.specs.declared.line.LineFault.{LineFault}
 use Rattle.tbl_text.specs.declared.base.BaseFault.{BaseFault}
 use Rattle.tbl_text.specs.declared.base.BaseFault.TheVariants as fault
 use Rattle.tbl_text.specs.Line.{line_value}
+use Rattle.tbl_text.specs.Lines.{lines_of}
 
 -- the rows of some lines up to the first of them that is bad by itself, and what is wrong with that line
 abbrev pub Read : Type 0
@@ -23,6 +24,13 @@ read_from limit place [] = ([], None)
 read_from limit place (line ∷ lines) =
     if place == limit then ([], Some (fault.TooMany (place + 1)))
     else onto_read place (line_value line) (read_from limit (place + 1) lines)
+
+-- the first line of the bytes says this, and rest is what follows it
+pub record Begins (bytes rest : List ℕ) (says : Result (KeyValue × TupleValue) LineFault) : Type 0 where
+  pub line : List ℕ
+  pub lines : lines_of bytes ≡ line ∷ lines_of rest
+  pub value : line_value line ≡ says
+  pub shorter : length rest < length bytes
 
 -- the order of keys: by order, and by line within one order
 abbrev pub key_is_less : KeyValue → KeyValue → Bool

@@ -8,7 +8,8 @@ ghost use Rattle.tbl_text.specs.Reading.{read_from};
 mod repeats;
 mod rows;
 
-use crate::{LineFault, Memory, first_line, line_of};
+use crate::first_row::first_row;
+use crate::{LineFault, Memory};
 use cubit_base::Table;
 use rows::Rows;
 use std::alloc::Global;
@@ -77,20 +78,22 @@ fn read_lines(alloc: Global, bytes: &[u8], row_limit: u32) -> Result<Reading, Me
     let expected_rows = (bytes.len() / SHORT_LINE_LEN).min(row_limit as usize) as u32;
     let mut rows = Rows::with_capacity(alloc, expected_rows)?;
     let mut rest = bytes;
-    while let Some(line) = first_line(rest) {
+    while !rest.is_empty() {
         let number = rows.len() + 1;
         if number > row_limit {
             let fault = Some(BaseFault::TooMany(number));
             return Ok(Reading { rows, fault });
         }
-        match line_of(&rest[..line.len]) {
-            Ok((key, tuple)) => rows.push(key, tuple)?,
+        match first_row(rest) {
+            Ok((key, tuple, others)) => {
+                rows.push(key, tuple)?;
+                rest = others;
+            }
             Err(fault) => {
                 let fault = Some(BaseFault::Line(number, fault));
                 return Ok(Reading { rows, fault });
             }
         }
-        rest = &rest[line.next..];
     }
     Ok(Reading { rows, fault: None })
 }

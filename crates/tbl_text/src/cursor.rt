@@ -1,16 +1,17 @@
-//! The common spelling of a line, read in one pass. What this reader takes is the line's value; it gives up at the first
-//! thing that is odd, also at spellings that are accepted and rare.
-ghost use Rattle.std.specs.Prelude.{◌≡◌, ℕ, ◌⊎◌, ◌<◌, ◌≤◌, ◌∷◌, ◌++◌, ◌==◌, count_by, true, take, length, IfSome};
+//! The first line of a file in the common spelling, read in one pass with no search for its end first. What this reader
+//! takes is the line's value; it gives up at the first thing that is odd, also at spellings that are accepted and rare.
+ghost use Rattle.std.specs.Prelude.{◌≡◌, ℕ, ◌⊎◌, ◌<◌, ◌≤◌, ◌∷◌, ◌++◌, ◌==◌, true, take, count_by, Ok, IfSome};
 ghost use Rattle.std.specs.Bool.{OnTrue};
-ghost use Rattle.tbl_text.specs.Cursor.{Takes, Finds, IsTail};
+ghost use Rattle.tbl_text.specs.Cursor.{Takes, Finds, IsTail, IsEnd, EndsLine};
 ghost use Rattle.tbl_text.specs.Field.{IsPair, integer_value, money_value, quantity_value, date_value, flag_value, status_value, is_text};
-ghost use Rattle.tbl_text.specs.Line.{line_value};
+ghost use Rattle.tbl_text.specs.Reading.{Begins};
 
-use crate::field::{date_field, digit_count, flag_of, leading_integer, pair_of, status_of};
+use crate::field::{date_field, flag_of, front_number, pair_of, status_of};
 use crate::fields::ends_in_bar;
+use crate::wide::{few_digits, text_and_bars};
 use cubit_base::{Flag, Key, LineStatus, Tuple};
 
-/// What is left of a line.
+/// What is left of a file.
 #[derive(Drop)]
 struct Cursor<'a> {
     rest: &'a [u8],
@@ -35,8 +36,11 @@ impl<'a> Cursor<'a> {
         ensures value { Finds integer_value self.old self.new result }
         ensures range { IfSome result (λ n. (1 ≤ n) × (n ≤ 7)) }
     {
-        match self.integer()? {
-            n @ 1..=7 => Some(n as u8),
+        match self.rest {
+            [digit @ b'1'..=b'7', b'|', rest @ ..] => {
+                self.rest = rest;
+                Some(*digit - b'0')
+            }
             _ => None,
         }
     }
@@ -71,8 +75,8 @@ impl<'a> Cursor<'a> {
         ensures value { Finds money_value self.old self.new result }
         ensures range { IfSome result (λ n. n ≤ 10) }
     {
-        match self.money()? {
-            n @ 0..=10 => Some(n as u8),
+        match self.hundredths()? {
+            n @ 0..=10 => Some(n),
             _ => None,
         }
     }
@@ -83,8 +87,8 @@ impl<'a> Cursor<'a> {
         ensures value { Finds money_value self.old self.new result }
         ensures range { IfSome result (λ n. n ≤ 8) }
     {
-        match self.money()? {
-            n @ 0..=8 => Some(n as u8),
+        match self.hundredths()? {
+            n @ 0..=8 => Some(n),
             _ => None,
         }
     }
@@ -114,12 +118,26 @@ impl<'a> Cursor<'a> {
         date_field(self.field_of_len(10)?)
     }
 
+    // The five last fields and the line's end.
+    #[inline(always)]
+    fn tail(&mut self) -> Option<()>
+        ensures { IfSome result (λ _. EndsLine self.old.rest.now self.new.rest.now) }
+    {
+        let (len, bars) = text_and_bars(self.rest)?;
+        let (tail, end) = self.rest.split_at(len);
+        if !is_five_fields(tail, bars) {
+            return None;
+        }
+        self.rest = past_end(end)?;
+        Some(())
+    }
+
     // An integer.
     #[inline(always)]
     fn integer(&mut self) -> Option<u64>
         ensures { Finds integer_value self.old self.new result }
     {
-        let (number, rest) = leading_integer(self.rest)?;
+        let (number, rest) = front_number(self.rest)?;
         self.rest = past_bar(rest)?;
         Some(number)
     }
@@ -129,7 +147,7 @@ impl<'a> Cursor<'a> {
     fn whole_number(&mut self) -> Option<u64>
         ensures { Finds quantity_value self.old self.new result }
     {
-        let (number, rest) = leading_integer(self.rest)?;
+        let (number, rest) = front_number(self.rest)?;
         self.rest = past_bar(past_zeros(rest))?;
         Some(number)
     }
@@ -139,19 +157,29 @@ impl<'a> Cursor<'a> {
     fn money(&mut self) -> Option<u64>
         ensures { Finds money_value self.old self.new result }
     {
-        let (whole, rest) = leading_integer(self.rest)?;
-        let (hundredths, rest) = hundredths(rest)?;
+        let (whole, rest) = front_number(self.rest)?;
+        let (hundredths, rest) = two_decimals(rest)?;
         self.rest = past_bar(rest)?;
         Some(whole * 100 + u64::from(hundredths))
     }
 
-    // Text that is digits alone.
+    // Money below 1 with one digit and two decimals.
+    #[inline(always)]
+    fn hundredths(&mut self) -> Option<u8>
+        ensures { Finds money_value self.old self.new result }
+    {
+        let (hundredths, rest) = below_one(self.rest)?;
+        self.rest = rest;
+        Some(hundredths)
+    }
+
+    // Text that is a few digits.
     #[inline(always)]
     fn digits(&mut self) -> Option<()>
         ensures { IfSome result (λ _.
             Takes is_text self.old.rest.now self.new.rest.now true) }
     {
-        let count = digit_count(self.rest);
+        let count = few_digits(self.rest)?;
         self.field_of_len(count)?;
         Some(())
     }
@@ -195,7 +223,7 @@ fn past_zeros(bytes: &[u8]) -> &[u8]
 
 // A point and two decimals at the front, and what follows them.
 #[inline(always)]
-fn hundredths(bytes: &[u8]) -> Option<(u8, &[u8])>
+fn two_decimals(bytes: &[u8]) -> Option<(u8, &[u8])>
     ensures value { IfSome result (λ r. (tens : ℕ) × (ones : ℕ)
         × (bytes.now ≡ 46 ∷ tens ∷ ones ∷ r.1.now) × IsPair tens ones r.0) }
     ensures within { IfSome result (λ r. r.0 < 100) }
@@ -206,12 +234,37 @@ fn hundredths(bytes: &[u8]) -> Option<(u8, &[u8])>
     }
 }
 
-/// The key and the tuple of a line in the common spelling.
+// Money of `0`, a point and two decimals before a bar, and what follows the bar.
 #[inline(always)]
-pub(crate) fn common_spelling(line: &[u8]) -> Option<(Key, Tuple)>
-    ensures { IfSome result (λ value. line_value line.now ≡ Ok value) }
+fn below_one(bytes: &[u8]) -> Option<(u8, &[u8])>
+    ensures { IfSome result (λ r. (tens : ℕ) × (ones : ℕ)
+        × (bytes.now ≡ 48 ∷ 46 ∷ tens ∷ ones ∷ 124 ∷ r.1.now) × IsPair tens ones r.0) }
 {
-    let mut cursor = Cursor { rest: line };
+    match bytes {
+        [b'0', b'.', tenths, ones, b'|', rest @ ..] => Some((pair_of(*tenths, *ones)?, rest)),
+        _ => None,
+    }
+}
+
+// What follows the line's end at the front.
+#[inline(always)]
+fn past_end(bytes: &[u8]) -> Option<&[u8]>
+    ensures { IfSome result (λ rest. IsEnd bytes.now rest.now) }
+{
+    match bytes {
+        [b'\n', rest @ ..] => Some(rest),
+        [b'\r', b'\n', rest @ ..] => Some(rest),
+        _ => None,
+    }
+}
+
+/// The key and the tuple of the first line, where it is in the common spelling and not close to the end of the bytes,
+/// and what follows the line.
+#[inline(always)]
+pub(crate) fn common_spelling(bytes: &[u8]) -> Option<(Key, Tuple, &[u8])>
+    ensures { IfSome result (λ r. Begins bytes.now r.2.now (Ok (r.0, r.1))) }
+{
+    let mut cursor = Cursor { rest: bytes };
     let order = cursor.order()?;
     cursor.digits()?;
     cursor.digits()?;
@@ -223,9 +276,7 @@ pub(crate) fn common_spelling(line: &[u8]) -> Option<(Key, Tuple)>
     let flag = cursor.flag()?;
     let status = cursor.status()?;
     let day = cursor.date()?;
-    if !is_tail(cursor.rest) {
-        return None;
-    }
+    cursor.tail()?;
     let key = Key { order, line };
     let tuple = Tuple {
         price,
@@ -236,33 +287,15 @@ pub(crate) fn common_spelling(line: &[u8]) -> Option<(Key, Tuple)>
         flag,
         status,
     };
-    Some((key, tuple))
+    Some((key, tuple, cursor.rest))
 }
 
-// Whether some bytes are five fields of text, and few enough for their bars to be counted in a byte.
+// Whether some text with so many bars is five fields.
 #[inline(always)]
-fn is_tail(bytes: &[u8]) -> bool
-    ensures { OnTrue result (IsTail bytes.now) }
+fn is_five_fields(tail: &[u8], bars: usize) -> bool
+    requires text { is_text tail.now ≡ true }
+    requires bars { bars ≡ count_by (λ b. b == 124) tail.now }
+    ensures { OnTrue result (IsTail tail.now) }
 {
-    if bytes.len() > 255 {
-        return false;
-    }
-    let (bars, is_text) = bars_and_text(bytes);
-    is_text && bars == if ends_in_bar(bytes) { 5 } else { 4 }
-}
-
-// The number of bars, and whether all bytes are text: one loop with no early end, which goes over many bytes at a time.
-#[inline(always)]
-fn bars_and_text(bytes: &[u8]) -> (u8, bool)
-    requires { length bytes.now ≤ 255 }
-    ensures bars { result.0 ≡ count_by (λ b. b == 124) bytes.now }
-    ensures text { result.1 ≡ is_text bytes.now }
-{
-    let mut bars = 0;
-    let mut is_text = true;
-    for b in bytes {
-        bars += u8::from(*b == b'|');
-        is_text &= b' ' <= *b && *b <= b'~';
-    }
-    (bars, is_text)
+    bars == if ends_in_bar(tail) { 5 } else { 4 }
 }

@@ -5,6 +5,9 @@ ghost use Rattle.tbl_text.specs.Field.{is_digit, IsPair, spelled, leading_digits
 
 use cubit_base::{Flag, LineStatus, day_of};
 
+// The digits that an integer may have.
+const MOST_DIGITS: usize = 10;
+
 /// An integer: 1 to 10 decimal digits, leading zeros among them.
 pub fn integer_of(field: &[u8]) -> Option<u64>
     ensures { result ≡ integer_value field.now }
@@ -58,14 +61,24 @@ pub(crate) fn is_text(field: &[u8]) -> bool
     field.iter().all(|b| (b' '..=b'~').contains(b))
 }
 
+// No branch depends on which of the letters it is, since that cannot be foretold.
 #[inline(always)]
 pub(crate) fn flag_of(field: &[u8]) -> Option<Flag>
     ensures { result ≡ flag_value field.now }
 {
     match field {
-        b"A" => Some(Flag::A),
-        b"N" => Some(Flag::N),
-        b"R" => Some(Flag::R),
+        [letter] => {
+            let number = u8::from(*letter == b'N') + 2 * u8::from(*letter == b'R');
+            let is_flag = (number != 0) | (*letter == b'A');
+            if !is_flag {
+                return None;
+            }
+            match number {
+                0 => Some(Flag::A),
+                1 => Some(Flag::N),
+                _ => Some(Flag::R),
+            }
+        }
         _ => None,
     }
 }
@@ -94,6 +107,32 @@ pub(crate) fn leading_integer(bytes: &[u8]) -> Option<(u64, &[u8])>
         1..=10 => Some((number_of(digits), rest)),
         _ => None,
     }
+}
+
+/// The integer at the front, and what follows its digits; none also close to the end of the bytes. One loop of a fixed
+/// number of turns counts the digits and reads them.
+#[inline(always)]
+pub(crate) fn front_number(bytes: &[u8]) -> Option<(u64, &[u8])>
+    ensures value { IfSome result (λ r. (integer_value (leading_digits bytes.now) ≡ Some r.0)
+        × (r.1.now ≡ after_digits bytes.now)) }
+    ensures within { IfSome result (λ r. r.0 < 10 ^ 10) }
+{
+    if bytes.len() <= MOST_DIGITS {
+        return None;
+    }
+    let mut number = 0;
+    for at in 0..MOST_DIGITS + 1 {
+        let b = bytes[at];
+        if !b.is_ascii_digit() {
+            return if at == 0 {
+                None
+            } else {
+                Some((number, &bytes[at..]))
+            };
+        }
+        number = number * 10 + u64::from(b - b'0');
+    }
+    None
 }
 
 // How many digits stand at the front.

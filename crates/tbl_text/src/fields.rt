@@ -32,8 +32,6 @@ struct Fields<'a> {
 }
 
 /// The key and the tuple of a line, or its first fault.
-#[cold]
-#[inline(never)]
 pub(crate) fn judged(line: &[u8]) -> Result<(Key, Tuple), Fault>
     requires { length line.now ≤ 4_294_967_295 }
     ensures { result ≡ line_value line.now }

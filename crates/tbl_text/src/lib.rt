@@ -6,8 +6,10 @@ mod base;
 mod cursor;
 mod field;
 mod fields;
+mod first_row;
 mod line;
 mod lines;
+mod wide;
 
 pub use base::{BaseFault, base_of};
 pub use field::{date_field, integer_of, money_of, quantity_of};

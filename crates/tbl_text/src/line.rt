@@ -2,7 +2,6 @@
 ghost use Rattle.std.specs.Prelude.{◌≡◌, ◌≤◌, length};
 ghost use Rattle.tbl_text.specs.Line.{line_value};
 
-use crate::cursor::common_spelling;
 use crate::fields::judged;
 use cubit_base::{Key, Tuple};
 
@@ -39,10 +38,7 @@ pub fn line_of(bytes: &[u8]) -> Result<(Key, Tuple), LineFault>
     requires { length bytes.now ≤ 4_294_967_295 }
     ensures { result ≡ line_value bytes.now }
 {
-    match common_spelling(bytes) {
-        Some(value) => Ok(value),
-        None => judged(bytes),
-    }
+    judged(bytes)
 }
 
 #[cfg(test)]

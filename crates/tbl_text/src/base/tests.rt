@@ -12,6 +12,17 @@ const SECOND: &[u8] =
 const THIRD: &[u8] =
     b"1|63700|3701|3|8|13309.60|0.10|0.02|N|O|1996-01-29|1996-03-05|1996-01-31|TAKE BACK RETURN|REG AIR|riously. regular, express dep|";
 
+const FOURTH: &[u8] =
+    b"1|2132|4633|4|28|28955.64|0.09|0.06|N|O|1996-04-21|1996-03-30|1996-05-16|NONE|AIR|lites. fluffily even de|";
+
+// The four lines, each with another end or spelling.
+const MIXED: [&[u8]; 4] = [
+    b"1|155190|7706|1|17|21168.23|0.04|0.02|N|O|1996-03-13|1996-02-12|1996-03-22|DELIVER IN PERSON|TRUCK|egular courts above the|\r\n",
+    b"1|67310|7311|2|36.00|45983.16|0.09|0.06|N|O|1996-04-12|1996-02-28|1996-04-20|TAKE BACK RETURN|MAIL|ly final dependencies: slyly bold \n",
+    b"0001|63700|3701|03|08.0|013309.6|0.1|00.02|N|O|1996-01-29|1996-03-05|1996-01-31|TAKE BACK RETURN|REG AIR|riously. regular, express dep|\n",
+    b"1|2132|4633|4|28|28955.64|0.09|0.06|N|O|1996-04-21|1996-03-30|1996-05-16|NONE|AIR|lites. fluffily even de",
+];
+
 // Each of the lines with this end.
 fn file_of(alloc: Global, lines: &[&[u8]], end: &[u8]) -> Result<Vec<u8>, AllocError> {
     let mut file = Vec::new(alloc);
@@ -71,4 +82,18 @@ fn keeps_values_of_last_line_without_end(rt: HostRuntime) {
         status: LineStatus::O,
     };
     assert_eq!(rt; row, Ok(Some((key, Some(tuple)))));
+}
+
+#[test]
+fn mixed_spellings_say_the_same(rt: HostRuntime) -> Result<(), Fail> {
+    let file = file_of(rt.alloc(), &MIXED, b"")?;
+    let plain_file = file_of(rt.alloc(), &[FIRST, SECOND, THIRD, FOURTH], b"\n")?;
+    assert!(rt; file.len() <= 9000 && plain_file.len() <= 9000);
+    let table = base_of(rt.alloc(), &file, 4).ok().ok_or("mixed")?;
+    let plain_table = base_of(rt.alloc(), &plain_file, 4).ok().ok_or("plain")?;
+    assert_eq!(rt; (table.len(), plain_table.len()), (4, 4));
+    for n in 0..4 {
+        assert_eq!(rt; table.row(n), plain_table.row(n), "at {n}");
+    }
+    Ok(())
 }

@@ -1,4 +1,5 @@
 use super::*;
+use crate::cursor::common_spelling;
 use cubit_base::{Flag, LineStatus};
 use std::alloc::{AllocError, Global};
 use std::process::Abort;
@@ -97,10 +98,15 @@ fn common_spellings(rt: HostRuntime) -> Result<(), Fail> {
     ];
     for (from, to) in edits {
         let line = edited(rt.alloc(), from, to)?;
-        let line = line.as_bytes();
         assert!(rt; line.len() < 1000);
-        let value = common_spelling(line).ok_or(to)?;
-        assert_eq!(rt; judged(line), Ok(value), "at {to:?}");
+        for end in ["\n", "\r\n"] {
+            let file = format!(in rt.alloc(); "{line}{end}{LINE}")?;
+            let Some((key, tuple, rest)) = common_spelling(file.as_bytes()) else {
+                return Err(Fail::from(to));
+            };
+            assert_eq!(rt; judged(line.as_bytes()), Ok((key, tuple)), "at {to:?}");
+            assert_eq!(rt; rest, LINE.as_bytes(), "at {to:?}");
+        }
     }
     Ok(())
 }

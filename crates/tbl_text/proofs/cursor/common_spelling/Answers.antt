@@ -1,5 +1,5 @@
 use Rattle.std.proofs.Common.{arith}
-use Rattle.tbl_text.proofs.Whole.{line_value-taken}
+use Rattle.tbl_text.proofs.Whole.{begins-taken}
 use Rattle.tbl_text.proofs.cursor.common_spelling.Goals as goal
 
 pub returns : goal.returns
@@ -10,8 +10,8 @@ returns c =
     let disc = c.in_ok-disc.ensures in
     let tax = c.in_ok-tax.ensures in
     let day = c.in_ok-day.ensures in
-    line_value-taken c.args.line.now _ _ _ _ _ _ _ _ _ _ _ _ _
+    begins-taken c.args.bytes.now _ _ _ _ _ _ _ _ _ _ _ _ _ _
     c.in_ok-order.ensures.value c.in_ok-digits.ensures c.in_ok-digits-2.ensures line.value qty.value price.value disc.value tax.value
-    c.in_ok-flag.ensures c.in_ok-status.ensures day.value c.if-not-is_tail.ensures
+    c.in_ok-flag.ensures c.in_ok-status.ensures day.value c.in_ok-tail.ensures
     (record { order = c.in_ok-order.ensures.range; line_low = line.range.0; line_high = line.range.1 }) (omega arith)
     (record { price = price.range; day = day.range; qty_low = qty.range.0; qty_high = qty.range.1; disc = disc.range; tax = tax.range })

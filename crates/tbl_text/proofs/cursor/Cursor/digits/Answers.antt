@@ -2,4 +2,4 @@ use Rattle.tbl_text.proofs.Taking.{takes_digits}
 use Rattle.tbl_text.proofs.cursor.Cursor.digits.Goals as goal
 
 pub returns : goal.returns
-returns c = takes_digits _ _ _ _ c.digit_count-count.ensures c.in_ok-field_of_len.ensures.field c.in_ok-field_of_len.ensures.cut
+returns c = takes_digits _ _ _ _ c.in_ok-count.ensures c.in_ok-field_of_len.ensures.field c.in_ok-field_of_len.ensures.cut
