@@ -1,5 +1,5 @@
 //! The first key that stands twice.
-ghost use Rattle.std.specs.Prelude.{◌≡◌, ◌<◌, ◌≤◌, length, IfOk, MatchOption, IsPermutation};
+ghost use Rattle.std.specs.Prelude.{◌≡◌, ◌<◌, length, IfOk, MatchOption, IsPermutation};
 ghost use Rattle.std.specs.List.Sorted.{IsSorted};
 ghost use Rattle.cubit_base.specs.Table.{HasDistinctKeys};
 ghost use Rattle.tbl_text.specs.Reading.{IsFirstRepeat};
