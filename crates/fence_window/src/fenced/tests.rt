@@ -116,3 +116,44 @@ fn the_longest_list(rt: HostRuntime) -> Result<(), Fail> {
     assert!(rt; fenced.get(4_294_967_294));
     Ok(())
 }
+
+/// Rows from a fixed generator, of which one in 64 begins a run of the other value.
+fn drawn_rows(alloc: Global, seed: u64, count: usize) -> Result<Vec<bool>, Memory> {
+    let mut rows = Vec::new(alloc);
+    let mut state = seed;
+    let mut value = false;
+    for _ in 0..count {
+        state = state
+            .wrapping_mul(6_364_136_223_846_793_005)
+            .wrapping_add(1_442_695_040_888_963_407);
+        value ^= state >> 58 == 0;
+        rows.push(value)?;
+    }
+    Ok(rows)
+}
+
+/// The window of a page has the rows from the page's first on, and then false.
+fn has_rows(rt: &impl Abort, fenced: &Fenced, page: u32, rows: &[bool]) {
+    let mut out = [0x5555_5555; 128];
+    fenced.window(page, &mut out);
+    let mut rest = rows.iter().skip(page as usize * 3_968);
+    for group in out {
+        for bit in 0..31u32 {
+            let row = rest.next().copied().unwrap_or(false);
+            assert_eq!(rt; (group >> bit) & 1 == 1, row, "page {page}");
+        }
+    }
+}
+
+#[test]
+fn windows_are_those_of_plain_lists(rt: HostRuntime) -> Result<(), Fail> {
+    for count in (0..131).chain(3_960..3_975) {
+        let rows = drawn_rows(rt.alloc(), count as u64, count)?;
+        assert!(rt; rows.len() < 10_000);
+        let fenced = Fenced::make(rt.alloc(), Wah::from_rows(rt.alloc(), &rows)?)?;
+        for page in 0..3 {
+            has_rows(&rt, &fenced, page, &rows);
+        }
+    }
+    Ok(())
+}
