@@ -1,4 +1,6 @@
 //! The words of the command line.
+ghost use Rattle.std.specs.Prelude.{◌≤◌, IfSome};
+
 use crate::form::Form;
 use crate::kernel::Kernel;
 
@@ -16,7 +18,9 @@ pub struct Command {
 
 impl Command {
     /// Reads the words, or none where they are no command.
-    pub fn of_words(words: &[String]) -> Option<Command> {
+    pub fn of_words(words: &[String]) -> Option<Command>
+        ensures { IfSome result (λ command. 1 ≤ command.rounds) }
+    {
         match words {
             [task, seed, size, rounds] => Command::of_parts(task, seed, size, rounds, false),
             [task, seed, size, rounds, option] if option.as_str() == "--times" => {
@@ -32,7 +36,9 @@ impl Command {
         size: &str,
         rounds: &str,
         tells_times: bool,
-    ) -> Option<Command> {
+    ) -> Option<Command>
+        ensures { IfSome result (λ command. 1 ≤ command.rounds) }
+    {
         let (kernel, form) = task.split_once('-')?;
         Some(Command {
             kernel: Kernel::of_name(kernel)?,

@@ -1,5 +1,6 @@
 //! The generator SplitMix64, the same as the twin's.
-ghost use Rattle.std.specs.Prelude.{◌<◌};
+ghost use Rattle.std.specs.Prelude.{◌≡◌, ◌<◌, ◌%◌};
+ghost use Rattle.kernel_bench.specs.Draws.{draw, next_state};
 
 /// Numbers that a seed determines, without end.
 #[derive(Drop)]
@@ -8,11 +9,16 @@ pub struct Draws {
 }
 
 impl Draws {
-    pub fn new(seed: u64) -> Draws {
+    pub fn new(seed: u64) -> Draws
+        ensures { result.state ≡ seed }
+    {
         Draws { state: seed }
     }
 
-    fn next(&mut self) -> u64 {
+    fn next(&mut self) -> u64
+        ensures state { self.new.state ≡ next_state self.old.state }
+        ensures draw { result ≡ draw self.new.state }
+    {
         self.state = self.state.wrapping_add(0x9e37_79b9_7f4a_7c15);
         let mixed = self.state;
         let mixed = (mixed ^ (mixed >> 30)).wrapping_mul(0xbf58_476d_1ce4_e5b9);
@@ -23,7 +29,9 @@ impl Draws {
     /// A number below the limit.
     pub fn below(&mut self, limit: u64) -> u64
         requires { 0 < limit }
-        ensures { result < limit }
+        ensures state { self.new.state ≡ next_state self.old.state }
+        ensures draw { result ≡ draw self.new.state % limit }
+        ensures below { result < limit }
     {
         self.next() % limit
     }

@@ -1,4 +1,5 @@
 //! The forms of input.
+ghost use Rattle.std.specs.Prelude.{◌≡◌};
 
 /// How the rows of an input lie.
 #[derive(Clone, Copy)]
@@ -14,7 +15,12 @@ pub enum Form {
 }
 
 impl Form {
-    pub fn of_name(name: &str) -> Option<Form> {
+    ghost use Rattle.kernel_bench.specs.Names.{form_named};
+
+    /// The form of that name, or none.
+    pub fn of_name(name: &str) -> Option<Form>
+        ensures { result ≡ form_named name.now }
+    {
         match name {
             "dense" => Some(Form::Dense),
             "sparse" => Some(Form::Sparse),

@@ -2,6 +2,7 @@
 ghost use Rattle.std.specs.Prelude.{◌≡◌, IfOk, length, take, drop};
 ghost use Rattle.kernel_bench.specs.Pages.{IsSelected};
 ghost use Rattle.fence_window.specs.Window.{page_count};
+ghost use Rattle.kernel_bench.specs.Names.{kernel_named};
 ghost use Rattle.kernel_bench.specs.Kernel.{AreOfLength, Makes, input_count, list_at};
 
 use crate::pages::{selected, xor_of};
@@ -38,7 +39,10 @@ pub enum Outcome {
 }
 
 impl Kernel {
-    pub fn of_name(name: &str) -> Option<Kernel> {
+    /// The kernel of that name, or none.
+    pub fn of_name(name: &str) -> Option<Kernel>
+        ensures { result ≡ kernel_named name.now }
+    {
         match name {
             "and" => Some(Kernel::And),
             "or" => Some(Kernel::Or),

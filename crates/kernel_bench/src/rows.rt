@@ -29,7 +29,10 @@ pub struct Rows {
 }
 
 impl Rows {
-    pub fn new(form: Form, seed: u64) -> Rows {
+    pub fn new(form: Form, seed: u64) -> Rows
+        ensures form { result.form ≡ form }
+        ensures seed { result.draws.state ≡ seed }
+    {
         Rows {
             form,
             draws: Draws::new(seed),

@@ -1,4 +1,6 @@
 //! How long the rounds took.
+ghost use Rattle.std.specs.Prelude.{◌≡◌, ◌+◌, ◌-◌, ◌^◌, min};
+
 use std::fmt;
 use std::time::Duration;
 
@@ -11,7 +13,9 @@ pub struct Times {
 }
 
 impl Times {
-    pub fn new() -> Times {
+    pub fn new() -> Times
+        ensures { result.rounds ≡ 0 }
+    {
         Times {
             rounds: 0,
             total: Duration::ZERO,
@@ -20,7 +24,9 @@ impl Times {
     }
 
     /// Counts in one round.
-    pub fn add(&mut self, time: Duration) {
+    pub fn add(&mut self, time: Duration)
+        ensures { self.new.rounds ≡ min (self.old.rounds + 1) (2 ^ 32 - 1) }
+    {
         self.rounds = self.rounds.saturating_add(1);
         self.total = self.total.saturating_add(time);
         self.least = self.least.min(time);
