@@ -11,8 +11,8 @@ use wah_words::{Run, Wah, one_spelling};
 
 /// The groups of a page, of 31 rows each.
 const PAGE_GROUPS: u32 = 128;
-/// The rows of a page.
-const PAGE_ROWS: u32 = 3_968;
+/// The rows of a page: 128 groups of 31.
+pub const PAGE_ROWS: u32 = 3_968;
 
 /// A bitvector whose pages are reached without a walk from its first word; contracts see its list.
 #[derive(Drop)]

@@ -4,5 +4,5 @@
 mod fenced;
 mod place;
 
-pub use fenced::Fenced;
+pub use fenced::{Fenced, PAGE_ROWS};
 pub use wah_words::Memory;

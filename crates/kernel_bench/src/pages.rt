@@ -3,10 +3,7 @@ ghost use Rattle.std.specs.Prelude.{ℕ, ◌≡◌, ◌+◌, ◌*◌, ◌<◌, �
 ghost use Rattle.fence_window.specs.Window.{page_count};
 ghost use Rattle.kernel_bench.specs.Pages.{xor_into, or_at, IsXor, IsSelected, IsSelectedIn};
 
-use fence_window::Fenced;
-
-/// The rows of a page.
-const PAGE_ROWS: u32 = 3_968;
+use fence_window::{Fenced, PAGE_ROWS};
 
 /// The groups of a page.
 type Page = [u32; 128];
