@@ -12,6 +12,7 @@ mod memory_files;
 mod memory_sink;
 mod sink;
 mod std_sink;
+mod telling;
 mod whole;
 
 pub use disk_files::DiskFiles;
@@ -21,4 +22,5 @@ pub use memory_sink::MemorySink;
 pub use sink::Sink;
 pub use std::alloc::AllocError as Memory;
 pub use std_sink::StdSink;
+pub use telling::tell;
 pub use whole::{FILE_LIMIT, ReadStop, read_all, write_all};
