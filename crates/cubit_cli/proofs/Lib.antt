@@ -1,4 +1,1 @@
-mod Counts
-mod Holding
-mod Stopping
-mod Telling
+mod Endings

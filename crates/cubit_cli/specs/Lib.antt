@@ -1,5 +1,6 @@
-pub mod Refusal
+pub mod Base
+pub mod Call
+pub mod Query
 pub mod Status
-pub mod Texts
-pub mod Told
 pub mod Words
+pub mod World

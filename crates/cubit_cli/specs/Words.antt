@@ -1,8 +1,6 @@
 -- The words of the query.
 use Rattle.std.specs.Prelude.{ℕ, Bool, true, false, not, ◌&&◌, ◌==◌, nat_le, List, [], ◌∷◌, Option, Some, None, codes, bytes_eq, if◌then◌else◌}
 use Rattle.tbl_text.specs.Field.{integer_value, money_value, quantity_value}
-use Rattle.cubit_base.specs.Predicate.{q6_predicate}
-use Rattle.cubit_base.specs.declared.predicate.Predicate.{Predicate}
 use Rattle.cubit_cli.specs.declared.query.Query.{Query}
 
 -- the base file's name, the year, the discount in hundredths, and the quantity
@@ -27,7 +25,8 @@ number_within low high None = None
 number_within low high (Some n) = if nat_le low n && nat_le n high then Some n else None
 
 abbrev pub query_of_numbers : List ℕ → Option ℕ → Option ℕ → Option ℕ → Option QueryValue
-query_of_numbers base (Some year) (Some disc) (Some qty) = Some (record { base = base; year = year; disc = disc; qty = qty })
+query_of_numbers base (Some year) (Some disc) (Some qty) =
+    Some (record { base = base; year = year; disc = disc; qty = qty })
 query_of_numbers base year disc qty = None
 
 -- q6 BASE YEAR DISCOUNT QUANTITY: a year from 1992 to 1998, money of at most ten hundredths, a quantity from 1 to 51
@@ -38,7 +37,3 @@ query_of (command ∷ base ∷ year ∷ discount ∷ quantity ∷ []) =
     (number_within 0 10 (money_value discount)) (number_within 1 51 (quantity_value quantity))
     else None
 query_of words = None
-
--- what the query selects
-abbrev pub predicate_of : QueryValue → Predicate
-predicate_of q = q6_predicate q.year q.disc q.qty
