@@ -89,6 +89,8 @@ impl StoredRow {
 /// The most rows that a table may have.
 pub const ROW_LIMIT: u32 = 16_777_216;
 
+const _: () = prove!(ROW_LIMIT == 16_777_216);
+
 /// The rows of a table, numbered from 0; contracts see them as a list.
 #[derive(Drop)]
 pub struct Table {

@@ -8,28 +8,26 @@ use Rattle.cubit_base.specs.Key.{KeyValue, same_key}
 use Rattle.cubit_base.specs.Tuple.{TupleValue}
 use Rattle.cubit_base.specs.Table.{Row}
 use Rattle.tbl_text.specs.declared.line.LineFault.{LineFault}
-use Rattle.tbl_text.specs.declared.base.BaseFault.{BaseFault}
-use Rattle.tbl_text.specs.declared.base.BaseFault.TheVariants as fault
 use Rattle.tbl_text.specs.Line.{line_value}
 use Rattle.tbl_text.specs.Lines.{lines_of}
-use Rattle.tbl_text.specs.Base.{rows_of, row_of_value, value_has_key, own_fault, fault_at, first_fault_or, base_value}
+use Rattle.tbl_text.specs.Base.{LinesFault, TooMany, Twice, rows_of_lines, row_of_value, value_has_key, own_fault, fault_at, first_fault_or, base_value}
 use Rattle.tbl_text.specs.Reading.{Read, read_from, onto_read}
 
 -- the fault of a row that has the key of an earlier row
-abbrev pub repeat_at : List Row → ℕ → Row → Option BaseFault
+abbrev pub repeat_at : List Row → ℕ → Row → Option LinesFault
 repeat_at rows place row =
-    option_map (λ first. fault.Twice (place + 1) (first + 1)) (position (λ earlier. same_key earlier.0 row.0) (take place rows))
+    option_map (λ first. Twice (place + 1) (first + 1)) (position (λ earlier. same_key earlier.0 row.0) (take place rows))
 
 -- all of these, where the first of the later rows has a place
-abbrev pub repeats_from : List Row → ℕ → List Row → List BaseFault
+abbrev pub repeats_from : List Row → ℕ → List Row → List LinesFault
 repeats_from rows place later = filter_map (λ p. repeat_at rows p.0 p.1) (enumerate_from place later)
 
 -- all faults of the later lines, where the first of them has a place
-abbrev faults_from : ℕ → List (List ℕ) → ℕ → List (List ℕ) → List BaseFault
+abbrev faults_from : ℕ → List (List ℕ) → ℕ → List (List ℕ) → List LinesFault
 faults_from limit lines place later = filter_map (λ p. fault_at limit lines p.0 p.1) (enumerate_from place later)
 
 -- what comes of what was read
-abbrev pub outcome : Read → Result (List Row) BaseFault
+abbrev pub outcome : Read → Result (List Row) LinesFault
 outcome read = first_fault_or (repeats_from read.0 0 read.0 ++ option_to_list read.1) read.0
 
 -- so many lines are these rows: each key stands at the same places of both
@@ -63,16 +61,16 @@ position-keys place lines rows are key =
 -- the lines from a place on have their first fault where what is read of them has it, behind the rows of the earlier lines
 abbrev Agrees : ℕ → List (List ℕ) → ℕ → List (List ℕ) → List Row → Read → Type 0
 Agrees limit lines place later front read =
-    first_fault_or (faults_from limit lines place later) (front ++ rows_of later)
+    first_fault_or (faults_from limit lines place later) (front ++ rows_of_lines later)
     ≡ first_fault_or (repeats_from (front ++ read.0) place read.0 ++ option_to_list read.1) (front ++ read.0)
 
 -- a line with a key, of which the place among the earlier rows is known
-first_fault-known : (place : ℕ) (faults repeats : List BaseFault) (rows all : List Row) (stop : List BaseFault) (first : Option ℕ) → first_fault_or faults rows ≡ first_fault_or (repeats ++ stop) all → first_fault_or (cons_option (option_map (λ n. fault.Twice (place + 1) (n + 1)) first) faults) rows ≡ first_fault_or (cons_option (option_map (λ n. fault.Twice (place + 1) (n + 1)) first) repeats ++ stop) all
+first_fault-known : (place : ℕ) (faults repeats : List LinesFault) (rows all : List Row) (stop : List LinesFault) (first : Option ℕ) → first_fault_or faults rows ≡ first_fault_or (repeats ++ stop) all → first_fault_or (cons_option (option_map (λ n. Twice (place + 1) (n + 1)) first) faults) rows ≡ first_fault_or (cons_option (option_map (λ n. Twice (place + 1) (n + 1)) first) repeats ++ stop) all
 first_fault-known place faults repeats rows all stop None known = known
 first_fault-known place faults repeats rows all stop (Some n) known = refl
 
 -- one line, of which it is known whether it is one too many, and what it says
-first_fault-line : (limit place : ℕ) (earlier later : List (List ℕ)) (line : List ℕ) (front : List Row) (is_over : Bool) (value : Result (KeyValue × TupleValue) LineFault) → AreRows place earlier front → line_value line ≡ value → ((row : Row) → AreRows (place + 1) (earlier ++ line ∷ []) (front ++ row ∷ []) → Agrees limit (earlier ++ line ∷ later) (place + 1) later (front ++ row ∷ []) (read_from limit (place + 1) later)) → first_fault_or (cons_option (cond is_over (Some (fault.TooMany (place + 1))) (own_fault (place + 1) earlier value)) (faults_from limit (earlier ++ line ∷ later) (place + 1) later)) (front ++ cons_option (row_of_value value) (rows_of later)) ≡ first_fault_or (repeats_from (front ++ (cond is_over ([], Some (fault.TooMany (place + 1))) (onto_read place value (read_from limit (place + 1) later))).0) place (cond is_over ([], Some (fault.TooMany (place + 1))) (onto_read place value (read_from limit (place + 1) later))).0 ++ option_to_list (cond is_over ([], Some (fault.TooMany (place + 1))) (onto_read place value (read_from limit (place + 1) later))).1) (front ++ (cond is_over ([], Some (fault.TooMany (place + 1))) (onto_read place value (read_from limit (place + 1) later))).0)
+first_fault-line : (limit place : ℕ) (earlier later : List (List ℕ)) (line : List ℕ) (front : List Row) (is_over : Bool) (value : Result (KeyValue × TupleValue) LineFault) → AreRows place earlier front → line_value line ≡ value → ((row : Row) → AreRows (place + 1) (earlier ++ line ∷ []) (front ++ row ∷ []) → Agrees limit (earlier ++ line ∷ later) (place + 1) later (front ++ row ∷ []) (read_from limit (place + 1) later)) → first_fault_or (cons_option (cond is_over (Some (TooMany (place + 1))) (own_fault (place + 1) earlier value)) (faults_from limit (earlier ++ line ∷ later) (place + 1) later)) (front ++ cons_option (row_of_value value) (rows_of_lines later)) ≡ first_fault_or (repeats_from (front ++ (cond is_over ([], Some (TooMany (place + 1))) (onto_read place value (read_from limit (place + 1) later))).0) place (cond is_over ([], Some (TooMany (place + 1))) (onto_read place value (read_from limit (place + 1) later))).0 ++ option_to_list (cond is_over ([], Some (TooMany (place + 1))) (onto_read place value (read_from limit (place + 1) later))).1) (front ++ (cond is_over ([], Some (TooMany (place + 1))) (onto_read place value (read_from limit (place + 1) later))).0)
 first_fault-line limit place earlier later line front true value are is known = refl
 first_fault-line limit place earlier later line front false (Err f) are is known = refl
 first_fault-line limit place earlier later line front false (Ok (key, tuple)) are is known =
@@ -80,7 +78,7 @@ first_fault-line limit place earlier later line front false (Ok (key, tuple)) ar
     let rows : List Row = front ++ (key, Some tuple) ∷ read.0 in
     let behind = simp append_assoc at (known (key, Some tuple) (AreRows-push place earlier front line key tuple are is)) in
     rw (position-keys place earlier front are key, take_at front ((key, Some tuple) ∷ read.0) place are.rows_len)
-    (first_fault-known place (faults_from limit (earlier ++ line ∷ later) (place + 1) later) (repeats_from rows (place + 1) read.0) (front ++ (key, Some tuple) ∷ rows_of later) rows (option_to_list read.1) (position (λ row. same_key row.0 key) front) behind)
+    (first_fault-known place (faults_from limit (earlier ++ line ∷ later) (place + 1) later) (repeats_from rows (place + 1) read.0) (front ++ (key, Some tuple) ∷ rows_of_lines later) rows (option_to_list read.1) (position (λ row. same_key row.0 key) front) behind)
 
 -- the first fault of the lines from a place on
 first_fault-read : (limit place : ℕ) (earlier later : List (List ℕ)) (front : List Row) → AreRows place earlier front → Agrees limit (earlier ++ later) place later front (read_from limit place later)

@@ -7,6 +7,20 @@ use Rattle.tbl_text.specs.declared.line.LineFault.TheVariants as fault
 use Rattle.tbl_text.specs.Field.{integer_value, money_value, quantity_value, date_value, flag_value, status_value, is_text}
 use Rattle.tbl_text.specs.Lines.{fields_of}
 
+-- the numbers of the faults of a line
+abbrev pub fault_number : LineFault → ℕ
+fault_number (fault.FieldCount count) = 1
+fault_number fault.Order = 2
+fault_number fault.Line = 3
+fault_number fault.Quantity = 4
+fault_number fault.Price = 5
+fault_number fault.Discount = 6
+fault_number fault.Tax = 7
+fault_number fault.Flag = 8
+fault_number fault.Status = 9
+fault_number fault.Date = 10
+fault_number fault.Text = 11
+
 infixl 10 ◌>>=◌
 abbrev pub ◌>>=◌ : {A B : Type 0} → Result A LineFault → (A → Result B LineFault) → Result B LineFault
 (Ok x) >>= f = f x

@@ -1,16 +1,16 @@
 //! A whole file.
-ghost use Rattle.std.specs.Prelude.{◌≡◌, ◌⊎◌, ◌≤◌, length, IsErrOf, IfOk};
+ghost use Rattle.std.specs.Prelude.{◌≡◌, ◌≤◌, length, IfOk};
 ghost use Rattle.cubit_base.specs.Table.{HasDistinctKeys};
-ghost use Rattle.tbl_text.specs.Base.{base_value};
+ghost use Rattle.tbl_text.specs.Base.{IsBaseResult};
 ghost use Rattle.tbl_text.specs.Lines.{lines_of};
-ghost use Rattle.tbl_text.specs.Reading.{read_from};
+ghost use Rattle.tbl_text.specs.Reading.{read_from, fault_of_end};
 
 mod repeats;
 mod rows;
 
 use crate::first_row::first_row;
 use crate::{LineFault, Memory};
-use cubit_base::Table;
+use cubit_base::{ROW_LIMIT, Table};
 use rows::Rows;
 use std::alloc::Global;
 
@@ -41,19 +41,30 @@ impl From<Memory> for BaseFault {
 // Few lines of `lineitem` are shorter, so that room for the rows is mostly taken once.
 const SHORT_LINE_LEN: usize = 100;
 
-// What was read of a file, up to its end or to the first line that is bad by itself.
+// Where the reading of lines ended.
+#[derive(Clone, Copy, Debug, PartialEq, Eq)]
+enum ReadEnd {
+    // At the end of the file.
+    File,
+    // At this line, which is one more than the row limit.
+    TooMany(u32),
+    // At this line, which has this fault of its own.
+    Faulty(u32, LineFault),
+}
+
+// The rows of the lines before that end.
 #[derive(Drop)]
 struct Reading {
     rows: Rows,
-    fault: Option<BaseFault>,
+    end: ReadEnd,
 }
 
 /// The table of all lines, or what is wrong with the first bad line. At one line the order is as in `BaseFault`.
 pub fn base_of(alloc: Global, bytes: &[u8], row_limit: u32) -> Result<Table, BaseFault>
-    requires bytes { length bytes.now ≤ 4_294_967_295 }
-    requires limit { row_limit ≤ 16_777_216 }
+    requires bytes { length bytes.now ≤ u32.MAX }
+    requires limit { row_limit ≤ ROW_LIMIT }
 
-    ensures value { IsErrOf result BaseFault.Memory ⊎ (result ≡ base_value row_limit bytes.now) }
+    ensures value { IsBaseResult row_limit bytes.now result }
     ensures within { IfOk result (λ table. length table ≤ row_limit) }
     ensures distinct { IfOk result HasDistinctKeys }
 {
@@ -61,18 +72,19 @@ pub fn base_of(alloc: Global, bytes: &[u8], row_limit: u32) -> Result<Table, Bas
     if let Some(repeat) = reading.rows.first_repeat(alloc)? {
         return Err(BaseFault::Twice(repeat.later + 1, repeat.earlier + 1));
     }
-    match reading.fault {
-        Some(fault) => Err(fault),
-        None => Ok(reading.rows.into_table()),
+    match reading.end {
+        ReadEnd::File => Ok(reading.rows.into_table()),
+        ReadEnd::TooMany(line) => Err(BaseFault::TooMany(line)),
+        ReadEnd::Faulty(line, fault) => Err(BaseFault::Line(line, fault)),
     }
 }
 
 // Reads line after line.
 fn read_lines(alloc: Global, bytes: &[u8], row_limit: u32) -> Result<Reading, Memory>
-    requires bytes { length bytes.now ≤ 4_294_967_295 }
-    requires limit { row_limit ≤ 16_777_216 }
+    requires bytes { length bytes.now ≤ u32.MAX }
+    requires limit { row_limit ≤ ROW_LIMIT }
 
-    ensures value { IfOk result (λ r. (r.rows.table, r.fault) ≡ read_from row_limit 0 (lines_of bytes.now)) }
+    ensures value { IfOk result (λ r. (r.rows.table, fault_of_end r.end) ≡ read_from row_limit 0 (lines_of bytes.now)) }
     ensures within { IfOk result (λ r. length r.rows.table ≤ row_limit) }
 {
     let expected_rows = (bytes.len() / SHORT_LINE_LEN).min(row_limit as usize) as u32;
@@ -81,8 +93,8 @@ fn read_lines(alloc: Global, bytes: &[u8], row_limit: u32) -> Result<Reading, Me
     while !rest.is_empty() {
         let number = rows.len() + 1;
         if number > row_limit {
-            let fault = Some(BaseFault::TooMany(number));
-            return Ok(Reading { rows, fault });
+            let end = ReadEnd::TooMany(number);
+            return Ok(Reading { rows, end });
         }
         match first_row(rest) {
             Ok((key, tuple, others)) => {
@@ -90,12 +102,13 @@ fn read_lines(alloc: Global, bytes: &[u8], row_limit: u32) -> Result<Reading, Me
                 rest = others;
             }
             Err(fault) => {
-                let fault = Some(BaseFault::Line(number, fault));
-                return Ok(Reading { rows, fault });
+                let end = ReadEnd::Faulty(number, fault);
+                return Ok(Reading { rows, end });
             }
         }
     }
-    Ok(Reading { rows, fault: None })
+    let end = ReadEnd::File;
+    Ok(Reading { rows, end })
 }
 
 #[cfg(test)]

@@ -1,6 +1,6 @@
 //! One line.
 ghost use Rattle.std.specs.Prelude.{◌≡◌, ◌≤◌, length};
-ghost use Rattle.tbl_text.specs.Line.{line_value};
+ghost use Rattle.tbl_text.specs.Line.{fault_number, line_value};
 
 use crate::fields::judged;
 use cubit_base::{Key, Tuple};
@@ -30,6 +30,27 @@ pub enum LineFault {
     Date,
     /// Another field has a byte outside 32 to 126.
     Text,
+}
+
+impl LineFault {
+    /// The number that docs/FORMATS.md gives the fault, 1 to 11 in the order of the variants.
+    pub fn number(self) -> u8
+        ensures { result ≡ fault_number self }
+    {
+        match self {
+            LineFault::FieldCount(_) => 1,
+            LineFault::Order => 2,
+            LineFault::Line => 3,
+            LineFault::Quantity => 4,
+            LineFault::Price => 5,
+            LineFault::Discount => 6,
+            LineFault::Tax => 7,
+            LineFault::Flag => 8,
+            LineFault::Status => 9,
+            LineFault::Date => 10,
+            LineFault::Text => 11,
+        }
+    }
 }
 
 /// The key and the tuple of a line without its line end, or the first fault: the number of fields, and then the
