@@ -1,13 +1,14 @@
 //! The program: the real files and streams, and the words of the command line.
 #![tactic(auto)]
 
-use cubit_cli::run;
+mod exit;
+
 use cubit_io::{DiskFiles, StdSink};
-use std::process::ExitCode;
+use exit::Exit;
 use std::rt::Env;
 use std::{env, io};
 
-fn main(rt: HostRuntime) -> ExitCode {
+fn main(rt: HostRuntime) -> Exit {
     // Words that cannot be had as text are wrong words, as none at all are.
     let words = match arguments(&rt) {
         Ok(words) => words,
@@ -16,8 +17,7 @@ fn main(rt: HostRuntime) -> ExitCode {
     let mut files = DiskFiles::make(&rt);
     let mut out = StdSink::out(&rt);
     let mut err = StdSink::err(&rt);
-    let status = run(rt.alloc(), &words, &mut files, &mut out, &mut err);
-    ExitCode::from(status.code())
+    Exit::of_call(rt.alloc(), &words, &mut files, &mut out, &mut err)
 }
 
 fn arguments<R: Env + AllocGlobal>(rt: &R) -> io::Result<Vec<String>> {

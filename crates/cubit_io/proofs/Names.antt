@@ -13,12 +13,15 @@ use Rattle.std.proofs.lemmas.Slice.Eq.{bytes_eq-Decides}
 use Rattle.cubit_io.specs.MemoryFile.{MemoryFileValue}
 use Rattle.cubit_io.specs.MemoryFiles.{bytes_under, bytes_at, index_under}
 
+-- the files of a `MemoryFiles`
 abbrev Files : Type 0
 Files = List MemoryFileValue
 
+-- whether a file has this name
 abbrev is_named : List ℕ → MemoryFileValue → Bool
 is_named name file = bytes_eq file.name name
 
+-- the bytes of a file, where there is one
 abbrev bytes_of : Option MemoryFileValue → Option (List ℕ)
 bytes_of file = option_map (λ f. f.bytes) file
 
@@ -52,49 +55,58 @@ find-set-other p (x ∷ xs) zero old new reads not_old not_new =
 find-set-other p (x ∷ xs) (suc i) old new reads not_old not_new =
     ap (cond (p x) (Some x)) (find-set-other p xs i old new reads not_old not_new)
 
+-- none is no second choice
 option_or-None : (file : Option MemoryFileValue) → option_or file None ≡ file
 option_or-None None = refl
 option_or-None (Some file) = refl
 
+-- a file that has one name hasn't another
 has_other_name : (file : MemoryFileValue) (name other : List ℕ) → file.name ≡ name → other ≢ name
     → is_named other file ≡ false
 has_other_name file name other named differs =
     false_from_ne_true _ (λ same. differs (sym ((bytes_eq-Decides file.name other).0 same) ∙ named))
 
-module _ (files : Files) (name : List ℕ) (file : MemoryFileValue) where
-  -- the first file of a name is replaced by one of the same name
-  module _ (i : ℕ) (old : MemoryFileValue) (first : index_under files name ≡ Some i) (reads : old ≡ get_or files i old)
-      (keeps : file.name ≡ old.name) where
-    old_is_named : is_named name old ≡ true
-    old_is_named = ap (is_named name) reads ∙ (position-Some (is_named name) files i old first).1
+-- the first file of a name has it
+old_is_named : (files : Files) (name : List ℕ) (i : ℕ) (old : MemoryFileValue) → index_under files name ≡ Some i
+    → old ≡ get_or files i old → is_named name old ≡ true
+old_is_named files name i old first reads =
+    ap (is_named name) reads ∙ (position-Some (is_named name) files i old first).1
 
-    pub bytes_under-set_same : bytes_under (set files i file) name ≡ Some file.bytes
-    bytes_under-set_same =
-        let found : (i ≡ position_or_len (is_named name) files) × (i < length files) = grind (arith, nat_tests) in
-        let is_named_too = ap (λ n. bytes_eq n name) keeps ∙ old_is_named in
-        bytes_under_find (set files i file) name
-        ∙ ap bytes_of (find-set (is_named name) files i file found.0 found.1 is_named_too)
+-- the first file of a name is replaced by one of the same name: what is found under it
+pub bytes_under-set_same : (files : Files) (name : List ℕ) (i : ℕ) (old file : MemoryFileValue)
+    → index_under files name ≡ Some i → old ≡ get_or files i old → file.name ≡ old.name
+    → bytes_under (set files i file) name ≡ Some file.bytes
+bytes_under-set_same files name i old file first reads keeps =
+    let found : (i ≡ position_or_len (is_named name) files) × (i < length files) = grind (arith, nat_tests) in
+    let is_named_too = ap (λ n. bytes_eq n name) keeps ∙ old_is_named files name i old first reads in
+    bytes_under_find (set files i file) name
+    ∙ ap bytes_of (find-set (is_named name) files i file found.0 found.1 is_named_too)
 
-    pub bytes_under-set_other : (other : List ℕ) → other ≢ name → bytes_under (set files i file) other ≡ bytes_under files other
-    bytes_under-set_other other differs =
-        let named = (bytes_eq-Decides old.name name).0 old_is_named in
-        let old_differs = has_other_name old name other named differs in
-        let new_differs = has_other_name file name other (keeps ∙ named) differs in
-        let same = find-set-other (is_named other) files i old file reads old_differs new_differs in
-        bytes_under_find (set files i file) other ∙ ap bytes_of same ∙ sym (bytes_under_find files other)
+-- the same: what is found under any other name
+pub bytes_under-set_other : (files : Files) (name : List ℕ) (i : ℕ) (old file : MemoryFileValue)
+    → index_under files name ≡ Some i → old ≡ get_or files i old → file.name ≡ old.name
+    → (other : List ℕ) → other ≢ name → bytes_under (set files i file) other ≡ bytes_under files other
+bytes_under-set_other files name i old file first reads keeps other differs =
+    let named = (bytes_eq-Decides old.name name).0 (old_is_named files name i old first reads) in
+    let old_differs = has_other_name old name other named differs in
+    let new_differs = has_other_name file name other (keeps ∙ named) differs in
+    let same = find-set-other (is_named other) files i old file reads old_differs new_differs in
+    bytes_under_find (set files i file) other ∙ ap bytes_of same ∙ sym (bytes_under_find files other)
 
-  -- a file of the name is put behind the others
-  module _ (named : file.name ≡ name) where
-    pub bytes_under-push_same : index_under files name ≡ None → bytes_under (files ++ file ∷ []) name ≡ Some file.bytes
-    bytes_under-push_same missing =
-        let past : length files ≤ position_or_len (is_named name) files = grind (arith, nat_tests) in
-        let none = find_at (is_named name) files ∙ slice_get_past files _ past in
-        let is_found = (bytes_eq-Decides file.name name).1 named in
-        bytes_under_find (files ++ file ∷ []) name ∙ ap bytes_of (find-append (is_named name) files (file ∷ []))
-        ∙ rw (none, is_found) refl
+-- a file of a new name is put behind the others: what is found under it
+pub bytes_under-push_same : (files : Files) (name : List ℕ) (file : MemoryFileValue) → file.name ≡ name
+    → index_under files name ≡ None → bytes_under (files ++ file ∷ []) name ≡ Some file.bytes
+bytes_under-push_same files name file named missing =
+    let past : length files ≤ position_or_len (is_named name) files = grind (arith, nat_tests) in
+    let none = find_at (is_named name) files ∙ slice_get_past files _ past in
+    let is_found = (bytes_eq-Decides file.name name).1 named in
+    bytes_under_find (files ++ file ∷ []) name ∙ ap bytes_of (find-append (is_named name) files (file ∷ []))
+    ∙ rw (none, is_found) refl
 
-    pub bytes_under-push_other : (other : List ℕ) → other ≢ name → bytes_under (files ++ file ∷ []) other ≡ bytes_under files other
-    bytes_under-push_other other differs =
-        let passed = has_other_name file name other named differs in
-        bytes_under_find (files ++ file ∷ []) other ∙ ap bytes_of (find-append (is_named other) files (file ∷ []))
-        ∙ ap bytes_of (rw passed (option_or-None (find (is_named other) files))) ∙ sym (bytes_under_find files other)
+-- the same: what is found under any other name
+pub bytes_under-push_other : (files : Files) (name : List ℕ) (file : MemoryFileValue) → file.name ≡ name
+    → (other : List ℕ) → other ≢ name → bytes_under (files ++ file ∷ []) other ≡ bytes_under files other
+bytes_under-push_other files name file named other differs =
+    let passed = has_other_name file name other named differs in
+    bytes_under_find (files ++ file ∷ []) other ∙ ap bytes_of (find-append (is_named other) files (file ∷ []))
+    ∙ ap bytes_of (rw passed (option_or-None (find (is_named other) files))) ∙ sym (bytes_under_find files other)

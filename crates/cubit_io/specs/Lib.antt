@@ -1,8 +1,11 @@
 pub mod Count
 pub mod DiskFiles
+pub mod Files
 pub mod Held
 pub mod MemoryFile
 pub mod MemoryFiles
 pub mod MemorySink
 pub mod Pieces
+pub mod Sink
 pub mod StdSink
+pub mod Whole

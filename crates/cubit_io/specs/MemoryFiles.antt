@@ -32,6 +32,14 @@ bytes_under files name = option_map (bytes_at files) (index_under files name)
 abbrev pub held_of : MemoryFilesValue → Held
 held_of memory = Some (bytes_under memory.files)
 
+-- all is told of what is left
+abbrev pub rest_of : MemoryFilesValue → Option (List ℕ)
+rest_of memory = Some memory.rest
+
+-- how many faults there were
+abbrev pub faults_of : MemoryFilesValue → ℕ
+faults_of memory = memory.faults
+
 -- what is left from a place on
 abbrev pub left_at : List MemoryFileValue → Option Place → List ℕ
 left_at files None = []

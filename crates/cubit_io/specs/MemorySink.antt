@@ -1,5 +1,5 @@
 -- A sink in memory, of which calls that are listed fail.
-use Rattle.std.specs.Prelude.{ℕ, List}
+use Rattle.std.specs.Prelude.{ℕ, List, Option, Some}
 
 -- all that was taken; the numbers of the calls that are to fail, from 1; how many calls there were; how many failed
 pub record MemorySinkValue : Type 0 where
@@ -7,3 +7,11 @@ pub record MemorySinkValue : Type 0 where
   pub fails : List ℕ
   pub calls : ℕ
   pub faults : ℕ
+
+-- all is told of what was taken
+abbrev pub taken_of : MemorySinkValue → Option (List ℕ)
+taken_of sink = Some sink.taken
+
+-- how many calls failed
+abbrev pub faults_of : MemorySinkValue → ℕ
+faults_of sink = sink.faults

@@ -1,14 +1,15 @@
 -- The standard streams, of which nothing is told of what they took.
-use Rattle.std.specs.Prelude.{ℕ, Bool, true, false}
-use Rattle.cubit_io.specs.declared.std_sink.Stream.{Stream}
-use Rattle.cubit_io.specs.declared.std_sink.Stream.TheVariants.{Output, Error}
+use Rattle.std.specs.Prelude.{ℕ, List, Option, None}
 
--- whether it is standard error, and how many calls failed
+-- what the stream holds, where its type says it (the standard streams don't), and how many calls failed
 pub record StdSinkValue : Type 0 where
-  pub is_error : Bool
+  pub contents : Option (List ℕ)
   pub faults : ℕ
 
--- whether the stream is standard error
-abbrev pub is_error_stream : Stream → Bool
-is_error_stream (Output stream) = false
-is_error_stream (Error stream) = true
+-- nothing is told of what was taken
+abbrev pub untold : StdSinkValue → Option (List ℕ)
+untold sink = None
+
+-- how many calls failed
+abbrev pub faults_of : StdSinkValue → ℕ
+faults_of sink = sink.faults

@@ -1,7 +1,9 @@
 //! The files of the outside. What they hold is not told; only how often they failed.
-ghost use Rattle.std.specs.Prelude.{◌≡◌, ◌≤◌, [], Option, Some, None, Ok, false, length, IfOk, OnErr, is_ok, if◌then◌else◌};
-ghost use Rattle.cubit_io.specs.Count.{Rose, raised};
+ghost use Rattle.std.specs.Prelude.{◌≡◌, [], Some, Ok, false, is_ok, if◌then◌else◌};
 ghost use Rattle.std.specs.Io.KnownBytes.{ReadConsumes};
+ghost use Rattle.cubit_io.specs.Count.{raised};
+ghost use Rattle.cubit_io.specs.DiskFiles.{untold, faults_of};
+ghost use Rattle.cubit_io.specs.Files.{Begins, Reads};
 
 use crate::count::raised;
 use crate::{Failed, Files};
@@ -45,17 +47,15 @@ impl<R: HostFiles> DiskFiles<R> {
 }
 
 impl<R: HostFiles> Files for DiskFiles<R> {
-    ghost held = { λ _. None };
+    ghost held = { untold };
 
-    ghost rest = { λ _. None };
+    ghost rest = { untold };
 
-    ghost faults = { λ d. d.faults };
+    ghost faults = { faults_of };
 
     /// Opens a file. It lets go of one that was chosen before, also where it fails.
     fn begin(&mut self, name: &str) -> Result<(), Failed>
-        ensures cause { OnErr result (Rose self.old.faults self.new.faults) }
-        ensures counted { self.old.faults ≤ self.new.faults }
-
+        ensures begins { Begins untold untold faults_of self.old self.new name.now result }
         ensures opened { self.new.has_chosen ≡ is_ok result }
         ensures faults { self.new.faults ≡ (if is_ok result then self.old.faults else raised self.old.faults) }
     {
@@ -74,9 +74,7 @@ impl<R: HostFiles> Files for DiskFiles<R> {
 
     /// Reads on in the chosen file.
     fn read(&mut self, buffer: &mut [u8]) -> Result<usize, Failed>
-        ensures within { IfOk result (λ n. n ≤ length buffer.old) }
-        ensures cause { OnErr result (Rose self.old.faults self.new.faults) }
-        ensures counted { self.old.faults ≤ self.new.faults }
+        ensures reads { Reads untold untold faults_of self.old self.new buffer.old buffer.new result }
 
         // It gives what the runtime's file gives.
         ensures passed_on { ReadConsumes self.old.remaining self.new.remaining result buffer.new }

@@ -1,8 +1,7 @@
 //! Named files that are read from their start, one at a time.
-ghost use Rattle.std.specs.Prelude.{◌≡◌, ◌⊎◌, ◌<◌, ◌≤◌, ℕ, List, [], Option, Ok, length, take, IsErr, IfOk, IfSome, OnOk, OnErr};
-ghost use Rattle.cubit_io.specs.Held.{Held, IsMissing, Chooses};
-ghost use Rattle.cubit_io.specs.Pieces.{Gives};
-ghost use Rattle.cubit_io.specs.Count.{Rose};
+ghost use Rattle.std.specs.Prelude.{ℕ, List, Option};
+ghost use Rattle.cubit_io.specs.Files.{Begins, Reads};
+ghost use Rattle.cubit_io.specs.Held.{Held};
 
 /// The outside failed. It says no more.
 #[derive(Clone, Copy, Debug, PartialEq, Eq)]
@@ -19,25 +18,12 @@ pub trait Files {
     /// How often the outside has failed, up to 2^64 - 1.
     ghost faults: { Self → ℕ };
 
-    /// Chooses a file, from its start.
+    /// Chooses a file, from its start. Where it fails, none is chosen. A missing name is no fault.
     fn begin(&mut self, name: &str) -> Result<(), Failed>
-        ensures chosen { OnOk result (Chooses (held self.old) name.now (rest self.new)) }
-
-        // A missing name is no fault.
-        ensures missing { IsMissing (held self.old) name.now → IsErr result × (faults self.new ≡ faults self.old) }
-        ensures cause { OnErr result (IsMissing (held self.old) name.now ⊎ Rose (faults self.old) (faults self.new)) }
-        ensures none_chosen { OnErr result (IfSome (rest self.new) (λ left. left ≡ [])) }
-        ensures held { held self.new ≡ held self.old }
-        ensures counted { faults self.old ≤ faults self.new };
+        ensures { Begins held rest faults self.old self.new name.now result };
 
     /// Moves a front of what is left into the buffer. 0 in a buffer that is not empty is the end of the file, and
     /// where no file is chosen.
     fn read(&mut self, buffer: &mut [u8]) -> Result<usize, Failed>
-        ensures within { IfOk result (λ n. n ≤ length buffer.old) }
-        ensures given { IfOk result (λ n. Gives (rest self.old) (take n buffer.new) (rest self.new)) }
-        ensures end { result ≡ Ok 0 → 0 < length buffer.old → IfSome (rest self.old) (λ left. left ≡ []) }
-        ensures cause { OnErr result (Rose (faults self.old) (faults self.new)) }
-        ensures kept { OnErr result (rest self.new ≡ rest self.old) }
-        ensures held { held self.new ≡ held self.old }
-        ensures counted { faults self.old ≤ faults self.new };
+        ensures { Reads held rest faults self.old self.new buffer.old buffer.new result };
 }

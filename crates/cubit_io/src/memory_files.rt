@@ -1,9 +1,9 @@
 //! Files in memory, for tests.
-ghost use Rattle.std.specs.Prelude.{◌≡◌, ◌≢◌, ◌⊎◌, ◌<◌, ◌≤◌, ◌+◌, ◌-◌, [], List, ℕ, Option, Some, Ok, length, min, take, drop, Contains, IfOk, IfSome, OnOk, OnErr, IsErr, is_ok, if◌then◌else◌};
+ghost use Rattle.std.specs.Prelude.{◌≡◌, ◌≢◌, ◌⊎◌, ◌<◌, ◌≤◌, ◌+◌, ◌-◌, [], List, ℕ, Some, length, min, take, drop, Contains, IfOk, IfSome, OnOk, OnErr, IsErr, is_ok, if◌then◌else◌};
 ghost use Rattle.std.specs.Str.{bytes_eq};
-ghost use Rattle.cubit_io.specs.Count.{Rose, raised};
-ghost use Rattle.cubit_io.specs.Held.{IsMissing, Chooses};
-ghost use Rattle.cubit_io.specs.Pieces.{Gives};
+ghost use Rattle.cubit_io.specs.Count.{raised};
+ghost use Rattle.cubit_io.specs.Files.{Begins, Reads};
+ghost use Rattle.cubit_io.specs.Held.{IsMissing};
 ghost use Rattle.cubit_io.specs.MemoryFiles.{bytes_under, index_under};
 
 use crate::count::raised;
@@ -12,7 +12,7 @@ use crate::{Failed, Files, Memory};
 use std::alloc::Global;
 use std::marker::Model;
 
-/// A file: its name and its bytes.
+// A file: its name and its bytes.
 #[derive(Drop)]
 struct MemoryFile {
     name: String,
@@ -28,7 +28,7 @@ impl Model for MemoryFile {
     ghost view = { λ f. record { name = string_bytes f.name; bytes = f.bytes.items } };
 }
 
-/// A place in a file: the file's index, and how many of its bytes were read.
+// A place in a file: the file's index, and how many of its bytes were read.
 #[derive(Clone, Copy)]
 struct Place {
     file: usize,
@@ -137,23 +137,17 @@ impl MemoryFiles {
 }
 
 impl Files for MemoryFiles {
-    ghost use Rattle.cubit_io.specs.MemoryFiles.{held_of};
+    ghost use Rattle.cubit_io.specs.MemoryFiles.{held_of, rest_of, faults_of};
 
     ghost held = { held_of };
 
-    ghost rest = { λ m. Some m.rest };
+    ghost rest = { rest_of };
 
-    ghost faults = { λ m. m.faults };
+    ghost faults = { faults_of };
 
     /// It takes no memory. It fails where the call is listed, and at a missing name.
     fn begin(&mut self, name: &str) -> Result<(), Failed>
-        ensures chosen { OnOk result (Chooses (held_of self.old) name.now (Some self.new.rest)) }
-        ensures missing { IsMissing (held_of self.old) name.now → IsErr result × (self.new.faults ≡ self.old.faults) }
-        ensures cause { OnErr result (IsMissing (held_of self.old) name.now ⊎ Rose self.old.faults self.new.faults) }
-        ensures none_chosen { OnErr result (IfSome (Some self.new.rest) (λ left. left ≡ [])) }
-        ensures held { held_of self.new ≡ held_of self.old }
-        ensures counted { self.old.faults ≤ self.new.faults }
-
+        ensures begins { Begins held_of rest_of faults_of self.old self.new name.now result }
         ensures listed { Contains self.new.fails self.new.calls → IsErr result }
         ensures not_listed { OnErr result
             (IsMissing (held_of self.old) name.now ⊎ Contains self.new.fails self.new.calls) }
@@ -178,14 +172,7 @@ impl Files for MemoryFiles {
     /// Fills the buffer as far as bytes are left. It fails where the call is listed.
     #[tactic(auto, using(crate::proofs::Names::bytes_at_is))]
     fn read(&mut self, buffer: &mut [u8]) -> Result<usize, Failed>
-        ensures within { IfOk result (λ n. n ≤ length buffer.old) }
-        ensures given { IfOk result (λ n. Gives (Some self.old.rest) (take n buffer.new) (Some self.new.rest)) }
-        ensures end { result ≡ Ok 0 → 0 < length buffer.old → IfSome (Some self.old.rest) (λ left. left ≡ []) }
-        ensures cause { OnErr result (Rose self.old.faults self.new.faults) }
-        ensures kept { OnErr result (Some self.new.rest ≡ Some self.old.rest) }
-        ensures held { held_of self.new ≡ held_of self.old }
-        ensures counted { self.old.faults ≤ self.new.faults }
-
+        ensures reads { Reads held_of rest_of faults_of self.old self.new buffer.old buffer.new result }
         ensures count { IfOk result (λ n. n ≡ min (length self.old.rest) (length buffer.old)) }
         ensures listed { Contains self.new.fails self.new.calls → IsErr result }
         ensures not_listed { OnErr result (Contains self.new.fails self.new.calls) }

@@ -1,7 +1,8 @@
 //! A sink in memory, for tests and for callers that want the bytes.
-ghost use Rattle.std.specs.Prelude.{◌≡◌, ◌<◌, ◌≤◌, [], Some, length, take, Contains, IfOk, OnErr, IsErr, is_ok, if◌then◌else◌};
-ghost use Rattle.cubit_io.specs.Count.{Rose, raised};
-ghost use Rattle.cubit_io.specs.Pieces.{GrewBy};
+ghost use Rattle.std.specs.Prelude.{◌≡◌, [], length, Contains, IfOk, IsErr, is_ok, if◌then◌else◌};
+ghost use Rattle.cubit_io.specs.Count.{raised};
+ghost use Rattle.cubit_io.specs.MemorySink.{taken_of, faults_of};
+ghost use Rattle.cubit_io.specs.Sink.{Writes};
 
 use crate::count::raised;
 use crate::failing_calls::FailingCalls;
@@ -51,19 +52,13 @@ impl MemorySink {
 }
 
 impl Sink for MemorySink {
-    ghost taken = { λ s. Some s.taken };
+    ghost taken = { taken_of };
 
-    ghost faults = { λ s. s.faults };
+    ghost faults = { faults_of };
 
     /// Takes all the bytes. It fails where the call is listed, and where there is no memory for them.
     fn write(&mut self, bytes: &[u8]) -> Result<usize, Failed>
-        ensures within { IfOk result (λ n. n ≤ length bytes.now) }
-        ensures progress { 0 < length bytes.now → IfOk result (λ n. 0 < n) }
-        ensures taken { IfOk result (λ n. GrewBy (Some self.old.taken) (Some self.new.taken) (take n bytes.now)) }
-        ensures cause { OnErr result (Rose self.old.faults self.new.faults) }
-        ensures kept { OnErr result (Some self.new.taken ≡ Some self.old.taken) }
-        ensures counted { self.old.faults ≤ self.new.faults }
-
+        ensures writes { Writes taken_of faults_of self.old self.new bytes.now result }
         ensures whole { IfOk result (λ n. n ≡ length bytes.now) }
         ensures listed { Contains self.new.fails self.new.calls → IsErr result }
         ensures number { self.new.calls ≡ raised self.old.calls }

@@ -1,9 +1,8 @@
 //! Reading a file whole, and writing a text whole.
-ghost use Rattle.std.specs.Prelude.{◌≡◌, ◌⊎◌, ◌<◌, ◌≤◌, ℕ, List, [], length, vec_len, IsOk, IsErr, IsErrOf, IfOk, OnOk, OnErr};
-ghost use Rattle.cubit_io.specs.Held.{IsMissing, Holds, HoldsWhereTold, HasWhereTold};
-ghost use Rattle.cubit_io.specs.Pieces.{GrewBy, GrewByPrefix};
+ghost use Rattle.std.specs.Prelude.{◌≡◌, ◌≤◌, [], IsOk, OnOk, OnErr};
 ghost use Rattle.cubit_io.specs.Count.{Rose};
-ghost use Rattle.cubit_io.specs.declared.whole.TheConstants.{FILE_LIMIT};
+ghost use Rattle.cubit_io.specs.Pieces.{GrewBy, GrewByPrefix};
+ghost use Rattle.cubit_io.specs.Whole.{ReadsWhole};
 ghost use Rattle.cubit_io.specs.declared.whole.ReadStop.TheVariants.{Fault, Memory};
 
 use crate::{Failed, Files, Sink};
@@ -11,6 +10,8 @@ use std::alloc::{AllocError, Global};
 
 /// The most bytes that a file may have.
 pub const FILE_LIMIT: usize = 1_073_741_824;
+
+const _: () = prove!(FILE_LIMIT == 1_073_741_824);
 
 // Large enough that calls cost little, and small enough to stay in the processor's near memory.
 const PIECE: usize = 65_536;
@@ -42,22 +43,21 @@ impl From<AllocError> for ReadStop {
     }
 }
 
-/// All bytes of a file.
+/// All bytes of a file of at most `FILE_LIMIT` bytes.
 pub fn read_all<F: Files>(alloc: Global, files: &mut F, name: &str) -> Result<Vec<u8>, ReadStop>
-    ensures whole { IfOk result (λ bytes. HoldsWhereTold (F.held files.old) name.now bytes.items) }
-    ensures within { IfOk result (λ bytes. vec_len bytes ≤ FILE_LIMIT) }
+    ensures { ReadsWhole F.held F.faults files.old files.new name.now FILE_LIMIT result }
+{
+    read_up_to(alloc, files, name, FILE_LIMIT)
+}
 
-    ensures fault { IsErrOf result ReadStop.Fault
-        → IsMissing (F.held files.old) name.now ⊎ Rose (F.faults files.old) (F.faults files.new) }
-    ensures missing { IsMissing (F.held files.old) name.now
-        → IsErrOf result ReadStop.Fault ⊎ IsErrOf result ReadStop.Memory }
-    ensures too_long { IsErrOf result ReadStop.TooLong
-        → HasWhereTold (F.held files.old) name.now (λ bytes. FILE_LIMIT < length bytes) }
-    ensures longer { (bytes : List ℕ) → Holds (F.held files.old) name.now bytes → FILE_LIMIT < length bytes
-        → IsErr result }
-
-    ensures held { F.held files.new ≡ F.held files.old }
-    ensures counted { F.faults files.old ≤ F.faults files.new }
+// The limit is a parameter, so that a test can pass it.
+fn read_up_to<F: Files>(
+    alloc: Global,
+    files: &mut F,
+    name: &str,
+    limit: usize,
+) -> Result<Vec<u8>, ReadStop>
+    ensures { ReadsWhole F.held F.faults files.old files.new name.now limit result }
 {
     files.begin(name)?;
     let mut bytes = Vec::new(alloc);
@@ -67,7 +67,7 @@ pub fn read_all<F: Files>(alloc: Global, files: &mut F, name: &str) -> Result<Ve
         if count == 0 {
             return Ok(bytes);
         }
-        if count > FILE_LIMIT - bytes.len() {
+        if count > limit - bytes.len() {
             return Err(ReadStop::TooLong);
         }
         bytes.extend_from_slice(&piece[..count])?;
