@@ -47,7 +47,7 @@ def drawn(title, note, bars):
         color = OWN if name.startswith("cubit") else TWIN if name.startswith("yardstick") else PEER
         end = place(seconds)
         lines.append(f'<rect x="{LABELS}" y="{y:.0f}" width="{end - LABELS:.1f}" height="{BAR}" fill="{color}"/>')
-        lines.append(text(LABELS - 10, y + 13, 13, "end", "#1a1a1a", name))
+        lines.append(text(LABELS - 10, y + 13, 13, "end", "#1a1a1a", "yardstick, in C" if color == TWIN else name))
         lines.append(text(end + 8, y + 13, 13, "start", "#1a1a1a", f"{seconds:.3g} s"))
     lines.append(text((LABELS + WIDTH - NUMBERS) / 2, bottom + 42, 11, "middle", "#5a5a5a",
                       "seconds, on a log scale: shorter is faster"))
