@@ -43,7 +43,7 @@ POSTGRES_SETTINGS = ["listen_addresses=", "fsync=off", "autovacuum=off", "shared
 CLICKHOUSE_SETTINGS = """<yandex>
 <logger><level>error</level><console>1</console></logger>
 <listen_host>127.0.0.1</listen_host><tcp_port>{port}</tcp_port>
-<path>{folder}/data/</path><tmp_path>{folder}/tmp/</tmp_path><mark_cache_size>100000000</mark_cache_size>
+<path>{folder}/data/</path><tmp_path>{folder}/scratch/</tmp_path><mark_cache_size>100000000</mark_cache_size>
 <users_config>config.xml</users_config><profiles><default/></profiles><quotas><default/></quotas>
 <users><default><password/><networks><ip>127.0.0.1</ip></networks>
 <profile>default</profile><quota>default</quota></default></users>
