@@ -116,6 +116,13 @@ def contents(draw):
     for number in (9, 15, 16, 17, 20, 260, 271, 272):
         yield SOUND[0] + b"|" * number
         yield SOUND[0][:-1] + b"|" * number + b"x"
+    # The end of a line is looked at many bytes at a time: texts of each length, and a bad byte at each place.
+    for length in range(150):
+        text = b"x" * length
+        yield SOUND[0][:-1] + text
+        yield b"\n".join([SOUND[0][:-1] + text + b"|", SOUND[1]])
+        yield SOUND[0][:-1] + text + b"\x7f" + text + b"|"
+        yield SOUND[0].replace(b"|155190|", b"|" + text + b"|")
     for byte in range(256):
         place = draw.randrange(len(plain))
         yield plain[:place] + bytes([byte]) + plain[place + 1:]
