@@ -6,7 +6,15 @@ use Rattle.cubit_base.specs.Key.{KeyValue, IsKey}
 use Rattle.cubit_base.specs.Table.{Row}
 
 abbrev pub stored_tuple : Inside → TupleValue
-stored_tuple s = record { price = s.price; day = s.day; qty = s.qty; disc = s.disc; tax = s.tax; flag = s.flag; status = s.status }
+stored_tuple s = record {
+  price = s.price;
+  day = s.day;
+  qty = s.qty;
+  disc = s.disc;
+  tax = s.tax;
+  flag = s.flag;
+  status = s.status;
+}
 
 abbrev pub stored_key : Inside → KeyValue
 stored_key s = record { order = s.order; line = s.line }

@@ -19,11 +19,11 @@ pub fn day_of(year: u16, month: u8, day: u8) -> Option<u16>
     }
 }
 
-/// The number of 1 January of a year from 1992 to 1998.
-#[tactic(auto, using(crate::proofs::Years::begins_1992, crate::proofs::Years::begins_1993, crate::proofs::Years::begins_1994, crate::proofs::Years::begins_1995, crate::proofs::Years::begins_1996, crate::proofs::Years::begins_1997, crate::proofs::Years::begins_1998))]
-pub(crate) fn first_day_of(year: u16) -> u16
+// The number of 1 January of a year from 1992 to 1998.
+#[tactic(auto, using(crate::proofs::Years::year_starts))]
+fn first_day_of(year: u16) -> u16
     requires { (1992 ≤ year) × (year ≤ 1998) }
-    ensures start { result + 4379988 ≡ day_count (pos year) 1 1 }
+    ensures start { result + day_count (pos 1992) 1 1 ≡ day_count (pos year) 1 1 }
     ensures within { (result ≤ 1827) ⊎ ((year ≡ 1998) × (result ≤ 2192)) }
 {
     match year {
@@ -35,5 +35,28 @@ pub(crate) fn first_day_of(year: u16) -> u16
         1997 => 1827,
         1998 => 2192,
         _ => unreachable!(),
+    }
+}
+
+#[cfg(test)]
+mod tests {
+    use super::*;
+
+    #[test]
+    fn days(rt: HostRuntime) {
+        for (year, month, day, number) in [
+            (1992, 1, 1, Some(0)),
+            (1992, 2, 29, Some(59)),
+            (1996, 2, 29, Some(1520)),
+            (1996, 3, 13, Some(1533)),
+            (1998, 12, 31, Some(2556)),
+            (1995, 2, 29, None),
+            (1991, 12, 31, None),
+            (1999, 1, 1, None),
+            (1996, 0, 10, None),
+            (1996, 13, 1, None),
+        ] {
+            assert_eq!(rt; day_of(year, month, day), number, "of {year}-{month}-{day}");
+        }
     }
 }

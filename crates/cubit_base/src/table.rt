@@ -21,6 +21,8 @@ struct StoredRow {
     status: LineStatus,
 }
 
+const _: () = prove!(size_of::<StoredRow>() == 16);
+
 impl Model for StoredRow {
     ghost use Rattle.cubit_base.specs.Table.{Row};
 
@@ -191,7 +193,6 @@ impl Table {
 #[cfg(test)]
 mod tests {
     use super::*;
-    use crate::day_of;
     use std::test::Fail;
 
     #[test]
@@ -218,20 +219,32 @@ mod tests {
     }
 
     #[test]
-    fn days(rt: HostRuntime) {
-        for (year, month, day, number) in [
-            (1992, 1, 1, Some(0)),
-            (1992, 2, 29, Some(59)),
-            (1996, 2, 29, Some(1520)),
-            (1996, 3, 13, Some(1533)),
-            (1998, 12, 31, Some(2556)),
-            (1995, 2, 29, None),
-            (1991, 12, 31, None),
-            (1999, 1, 1, None),
-            (1996, 0, 10, None),
-            (1996, 13, 1, None),
-        ] {
-            assert_eq!(rt; day_of(year, month, day), number);
-        }
+    fn answers_query_6(rt: HostRuntime) -> Result<(), Fail> {
+        let mut table = Table::new(rt.alloc());
+        let key = Key { order: 1, line: 1 };
+        let (price, day, flag, status) = (2_116_823, 1533, Flag::N, LineStatus::O);
+        table.push(
+            key,
+            Some(Tuple {
+                price,
+                day,
+                qty: 17,
+                disc: 4,
+                tax: 2,
+                flag,
+                status,
+            }),
+        )?;
+        table.push(key, None)?;
+        let totals = table.totals(&Predicate::q6(1996, 5, 24));
+        assert_eq!(rt;
+            totals,
+            Totals {
+                count: 1,
+                sum: 8_467_292
+            }
+        );
+        assert_eq!(rt; table.totals(&Predicate::q6(1996, 6, 24)).count, 0);
+        Ok(())
     }
 }

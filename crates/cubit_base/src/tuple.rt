@@ -44,11 +44,35 @@ impl Model for Tuple {
 
     ghost Value = { TupleValue };
 
-    ghost view = { λ t. record { price = t.price; day = t.day; qty = t.qty; disc = t.disc; tax = t.tax; flag = t.flag; status = t.status } };
+    ghost view = { λ t. record {
+      price = t.price;
+      day = t.day;
+      qty = t.qty;
+      disc = t.disc;
+      tax = t.tax;
+      flag = t.flag;
+      status = t.status;
+    } };
 
-    ghost invariant = { λ t. IsTuple (record { price = t.price; day = t.day; qty = t.qty; disc = t.disc; tax = t.tax; flag = t.flag; status = t.status }) };
+    ghost invariant = { λ t. IsTuple (record {
+      price = t.price;
+      day = t.day;
+      qty = t.qty;
+      disc = t.disc;
+      tax = t.tax;
+      flag = t.flag;
+      status = t.status;
+    }) };
 
-    ghost inverse = { λ v. record { price = v.price; day = v.day; qty = v.qty; disc = v.disc; tax = v.tax; flag = v.flag; status = v.status } };
+    ghost inverse = { λ v. record {
+      price = v.price;
+      day = v.day;
+      qty = v.qty;
+      disc = v.disc;
+      tax = v.tax;
+      flag = v.flag;
+      status = v.status;
+    } };
 }
 
 impl Flag {

@@ -6,7 +6,7 @@ use Rattle.std.proofs.lemmas.List.{drop_min, take_min, length-take, length-appen
 use Rattle.std.proofs.lemmas.List.Elements.{All-nil, All-cons, All-append}
 use Rattle.std.proofs.lemmas.List.Sums.{position_or_len_is, AllPass-from_list_all}
 use Rattle.memchr.specs.Find.{IsFirstByte, is_byte}
-use Rattle.tbl_text.specs.Cursor.{IsEnd}
+use Rattle.tbl_text.specs.LineCursor.{IsEnd}
 use Rattle.tbl_text.specs.Field.{is_text_byte, is_text}
 use Rattle.tbl_text.proofs.Bars.{IsFree, pieces-separator}
 use Rattle.tbl_text.specs.Lines.{pieces, onto_first, lines_of, line_end, without_cr}

@@ -10,18 +10,10 @@ use Rattle.cubit_base.specs.Key.{KeyValue, same_key}
 use Rattle.cubit_base.specs.Table.{Row, HasDistinctKeys}
 use Rattle.tbl_text.specs.Lines.{lines_of}
 use Rattle.tbl_text.specs.Base.{LinesFault, Twice, base_value, first_fault_or}
-use Rattle.tbl_text.specs.Reading.{read_from, IsFirstRepeat}
-use Rattle.tbl_text.proofs.Faults.{base_value-outcome, repeat_at, outcome}
-
--- the test of two keys is their equality
-same_key-true : (a b : KeyValue) → same_key a b ≡ true → a ≡ b
-same_key-true a b same = grind arith
-
-same_key-same : (a b : KeyValue) → a ≡ b → same_key a b ≡ true
-same_key-same a b is = grind arith
-
-same_key-other : (a b : KeyValue) → a ≢ b → same_key a b ≡ false
-same_key-other a b differ = false_from_ne_true (same_key a b) (λ same. differ (same_key-true a b same))
+use Rattle.tbl_text.specs.Reading.{read_from}
+use Rattle.tbl_text.specs.Repeats.{IsFirstRepeat}
+use Rattle.tbl_text.proofs.Keys.{same_key-same, same_key-other}
+use Rattle.tbl_text.proofs.FirstFault.{base_value-outcome, repeat_at, outcome}
 
 -- nowhere, and the first place
 position-none : {A : Type 0} (p : A → Bool) (xs : List A) (d : A) → ((k : ℕ) → k < length xs → p (get_or xs k d) ≡ false) → position p xs ≡ None

@@ -1,15 +1,15 @@
 pub mod Bars
+pub mod ByteTests
 pub mod Dates
 pub mod Digits
-pub mod Faults
+pub mod FirstFault
 pub mod FirstLine
 pub mod FirstRepeat
-pub mod Lanes
-pub mod ReadLines
+pub mod Keys
+pub mod LineByLine
+pub mod MaskedRuns
 pub mod RisingKeys
-pub mod Runs
 pub mod SortedEntries
 pub mod SortedKeys
-pub mod Taking
-pub mod Whole
-mod WorkedRows
+pub mod TakenFields
+pub mod TakenLine

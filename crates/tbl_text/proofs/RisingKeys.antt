@@ -5,16 +5,10 @@ use Rattle.std.proofs.lemmas.Option.{gets, slice_get-get_or}
 use Rattle.std.proofs.lemmas.Bool.{cases_eq, false≢true, and_parts, and_from}
 use Rattle.std.proofs.lemmas.List.{get_or_append_left, get_or_push, length_push}
 use Rattle.std.proofs.lemmas.List.Quantifiers.{all_pairs_push}
-use Rattle.cubit_base.specs.Key.{KeyValue}
+use Rattle.cubit_base.specs.Key.{KeyValue, key_is_less}
 use Rattle.cubit_base.specs.Table.{Row, HasDistinctKeys}
-use Rattle.tbl_text.specs.Reading.{key_is_less, is_above, last_key, HasRisingKeys}
-
--- no key is less than itself
-key_is_less-self : (k : KeyValue) → key_is_less k k ≡ false
-key_is_less-self k = grind arith
-
-key_is_less-trans : (a b c : KeyValue) → key_is_less a b ≡ true → key_is_less b c ≡ true → key_is_less a c ≡ true
-key_is_less-trans a b c ab bc = grind arith
+use Rattle.tbl_text.specs.ReadRows.{is_above, last_key, HasRisingKeys}
+use Rattle.tbl_text.proofs.Keys.{key_is_less-self, key_is_less-trans}
 
 -- keys that rise differ
 pub HasRisingKeys-distinct : (rows : List Row) → HasRisingKeys rows → HasDistinctKeys rows

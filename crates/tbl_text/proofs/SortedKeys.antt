@@ -15,14 +15,14 @@ use Rattle.cubit_base.specs.Key.{KeyValue}
 use Rattle.cubit_base.specs.Table.{Row, HasDistinctKeys}
 use Rattle.tbl_text.specs.declared.base.repeats.Entry.{Entry}
 use Rattle.tbl_text.specs.declared.base.repeats.Repeat.{Repeat}
-use Rattle.tbl_text.specs.Reading.{IsFirstRepeat}
-use Rattle.tbl_text.specs.Repeats.{entry_of, entries_of, entry_cmp, HasSameKey, HasNoTie, IsLeastTie}
+use Rattle.tbl_text.proofs.Keys.{key_cmp-total}
+use Rattle.tbl_text.specs.Repeats.{IsFirstRepeat, entry_of, entries_of, entry_cmp, HasSameKey, HasNoTie, IsLeastTie}
 
 -- one entry is not above another
 record IsUpTo (a b : Entry) : Type 0 where
-  order : a.order ≤ b.order
-  line : a.order ≡ b.order → a.line ≤ b.line
-  row : a.order ≡ b.order → a.line ≡ b.line → a.row ≤ b.row
+  order : a.key.order ≤ b.key.order
+  line : a.key.order ≡ b.key.order → a.key.line ≤ b.key.line
+  row : a.key ≡ b.key → a.row ≤ b.row
 
 -- an entry is that of its row
 record IsEntryOf (rows : List Row) (entry : Entry) : Type 0 where
@@ -47,13 +47,13 @@ get_or-entries_of rows n e d within =
 
 entry_cmp-total : IsTotalOrder entry_cmp
 entry_cmp-total =
-    then_total (on_total (λ (e : Entry). e.order) nat_cmp_total) (then_total (on_total (λ (e : Entry). e.line) nat_cmp_total) (on_total (λ (e : Entry). e.row) nat_cmp_total))
+    then_total (on_total (λ (e : Entry). e.key) key_cmp-total) (on_total (λ (e : Entry). e.row) nat_cmp_total)
 
 IsUpTo-from_order : (a b : Entry) → is_lt (entry_cmp b a) ≡ false → IsUpTo a b
 IsUpTo-from_order a b order = record {
   order = grind (arith, nat_tests);
   line = λ o. grind (arith, nat_tests);
-  row = λ o l. grind (arith, nat_tests);
+  row = λ same. grind (arith, nat_tests);
 }
 
 IsEntryOf-entry_of : (rows : List Row) (n : ℕ) (d : Row) → n < length rows → IsEntryOf rows (entry_of n (get_or rows n d))
@@ -86,12 +86,18 @@ AreSorted-sort rows entries moved sorted = record {
   apart = λ i j d order within. eqb-false _ _ (apart_from_distinct same_row entries i j d (IsDistinct-IsPermutation same_row (λ x y. nat_eq_equiv.symm x.row y.row) (entries_of rows) entries moved (IsDistinct-entries_of rows)) order within);
 }
 
+-- a key by its parts
+same_fields : (k l : KeyValue) → k.order ≡ l.order → k.line ≡ l.line → k ≡ l
+same_fields k l order line = grind arith
+
 -- between two entries of one key the key stays, and the rows do not fall
 between-same_key : (a b c : Entry) → IsUpTo a b → IsUpTo b c → HasSameKey a c → HasSameKey a b × (b.row ≤ c.row)
 between-same_key a b c low high same =
-    let order : a.order ≡ b.order = omega (arith, low.order, high.order, same.0) in
-    let line : a.line ≡ b.line = omega (arith, low.line order, high.line (omega arith), same.1) in
-    ((order, line), high.row (omega arith) (omega arith))
+    let order : a.key.order ≡ b.key.order = omega (arith, low.order, high.order, ap (λ (k : KeyValue). k.order) same) in
+    let line : a.key.line ≡ b.key.line =
+    omega (arith, low.line order, high.line (omega (arith, order, ap (λ (k : KeyValue). k.order) same)), ap (λ (k : KeyValue). k.line) same) in
+    let stays : a.key ≡ b.key = same_fields a.key b.key order line in
+    (stays, high.row (sym stays ∙ same))
 
 -- a later row's entry of the same key stands behind an earlier row's
 entries-order : (rows : List Row) (entries : List Entry) → AreSorted rows entries → (a b z : Entry) (p q : ℕ) → p < length entries → q < length entries → get_or entries p z ≡ a → get_or entries q z ≡ b → HasSameKey a b → a.row < b.row → p < q
@@ -100,7 +106,7 @@ entries-order rows entries are a b z p q p_within q_within at_p at_q same later 
       | inl below ↦ below
       | inr above ↦
           let up : IsUpTo b a = rw (at_p, at_q) at (are.up q p z above p_within) in
-          absurd (omega (arith, up.row (sym same.0) (sym same.1), later))
+          absurd (omega (arith, up.row (sym same), later))
     ]
 
 -- the neighbour behind an earlier row's entry has its key, where a later row's entry has it
@@ -115,11 +121,10 @@ tie-between rows entries are i j d order within same =
     let b : Entry = entry_of j (get_or rows j d) in
     let at_a = are.all i d (omega arith) in
     let at_b = are.all j d within in
-    let keys : HasSameKey a b = (ap (λ (k : KeyValue). k.order) same, ap (λ (k : KeyValue). k.line) same) in
     let at_p = λ (z : Entry). get_or_default entries at_a.0 z a at_a.1 ∙ at_a.2 in
     let at_q = λ (z : Entry). get_or_default entries at_b.0 z b at_b.1 ∙ at_b.2 in
-    let behind : at_a.0 < at_b.0 = entries-order rows entries are a b a at_a.0 at_b.0 at_a.1 at_b.1 (at_p a) (at_q a) keys order in
-    (at_a.0, omega (arith, behind, at_b.1), λ z. neighbour-same_key rows entries are a b z at_a.0 at_b.0 behind at_b.1 (at_p z) (at_q z) keys)
+    let behind : at_a.0 < at_b.0 = entries-order rows entries are a b a at_a.0 at_b.0 at_a.1 at_b.1 (at_p a) (at_q a) same order in
+    (at_a.0, omega (arith, behind, at_b.1), λ z. neighbour-same_key rows entries are a b z at_a.0 at_b.0 behind at_b.1 (at_p z) (at_q z) same)
 
 -- where the neighbours' keys differ, the rows' keys do
 HasDistinctKeys-no_tie : (rows : List Row) (entries : List Entry) → AreSorted rows entries → HasNoTie entries (length entries) → HasDistinctKeys rows
@@ -138,19 +143,14 @@ HasDistinctKeys-before rows entries later are z least i j d order within same =
     omega (arith, least tie.0 z tie.1 (tie.2 z).0, (tie.2 z).1, below)
 
 -- the rows of two entries with one key have one key
-same_fields : (k l : KeyValue) → k.order ≡ l.order → k.line ≡ l.line → k ≡ l
-same_fields k l order line = grind arith
-
 key-of_entries : (rows : List Row) (a b : Entry) (d : Row) → IsEntryOf rows a → IsEntryOf rows b → HasSameKey a b → (get_or rows a.row d).0 ≡ (get_or rows b.row d).0
 key-of_entries rows a b d of_a of_b same =
-    same_fields (get_or rows a.row d).0 (get_or rows b.row d).0
-    (sym (ap (λ (e : Entry). e.order) (of_a.is d)) ∙ same.0 ∙ ap (λ (e : Entry). e.order) (of_b.is d))
-    (sym (ap (λ (e : Entry). e.line) (of_a.is d)) ∙ same.1 ∙ ap (λ (e : Entry). e.line) (of_b.is d))
+    sym (ap (λ (e : Entry). e.key) (of_a.is d)) ∙ same ∙ ap (λ (e : Entry). e.key) (of_b.is d)
 
 -- the least tie is the first repeat
 IsFirstRepeat-least_tie : (rows : List Row) (entries : List Entry) (earlier later : ℕ) → AreSorted rows entries → IsLeastTie entries (length entries) earlier later → IsFirstRepeat rows earlier later
 IsFirstRepeat-least_tie rows entries earlier later are tie =
-    let z : Entry = record { order = 0; line = 0; row = 0 } in
+    let z : Entry = record { key = record { order = 0; line = 0 }; row = 0 } in
     let first = are.each tie.place z (omega (arith, tie.within)) in
     let second = are.each (tie.place + 1) z tie.within in
     let up = are.up tie.place (tie.place + 1) z (omega arith) tie.within in
@@ -159,7 +159,7 @@ IsFirstRepeat-least_tie rows entries earlier later are tie =
     let second_row = tie.later_is z in
     let same = tie.same z in
     record {
-      order = omega (arith, up.row same.0 same.1, apart, first_row, second_row);
+      order = omega (arith, up.row same, apart, first_row, second_row);
       within = omega (arith, second.within, second_row);
       same = λ d. rw (first_row, second_row) at (key-of_entries rows (get_or entries tie.place z) (get_or entries (tie.place + 1) z) d first second same);
       distinct = HasDistinctKeys-before rows entries later are z tie.least;

@@ -1,6 +1,6 @@
 -- The fields of a line, one after another.
 use Rattle.std.specs.Prelude.{◌≡◌, ℕ, ◌<◌, List, [], ◌∷◌, length}
-use Rattle.tbl_text.specs.declared.fields.Fields.{Fields}
+use Rattle.tbl_text.specs.declared.careful.Fields.{Fields}
 use Rattle.tbl_text.specs.Lines.{pieces}
 
 -- of bytes, where there are any, this is the first field, and this follows its bar

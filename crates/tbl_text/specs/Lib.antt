@@ -1,9 +1,11 @@
 pub mod Base
-pub mod Cursor
 pub mod Field
 pub mod Fields
+pub mod FirstRow
 pub mod Line
+pub mod LineCursor
 pub mod Lines
+pub mod ReadRows
 pub mod Reading
 pub mod Repeats
 pub mod Wide

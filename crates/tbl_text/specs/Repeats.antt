@@ -1,15 +1,23 @@
--- The rows' keys in order, in which a repeated key stands beside itself.
-use Rattle.std.specs.Prelude.{◌≡◌, ℕ, Bool, ◌==◌, ◌&&◌, nat_lt, Option, Some, None, if◌then◌else◌, ◌+◌, ◌<◌, ◌≤◌, List, length, map, slice_index_or}
+-- The first key that stands twice: among the rows' keys in order, a repeated key stands beside itself.
+use Rattle.std.specs.Prelude.{◌≡◌, ℕ, ◌&&◌, nat_lt, Option, Some, None, if◌then◌else◌, ◌+◌, ◌<◌, ◌≤◌, List, length, map, take, slice_index_or}
 use Rattle.std.specs.List.{enumerate_from, AllAdjacentBelow}
 use Rattle.std.specs.declared.cmp.Ordering.{Ordering}
 use Rattle.std.specs.Ordering.{nat_cmp, ordering_then}
-use Rattle.cubit_base.specs.Table.{Row}
+use Rattle.cubit_base.specs.Key.{same_key, key_cmp}
+use Rattle.cubit_base.specs.Table.{Row, HasDistinctKeys}
 use Rattle.tbl_text.specs.declared.base.repeats.Entry.{Entry}
 use Rattle.tbl_text.specs.declared.base.repeats.Repeat.{Repeat}
 
+-- two rows have one key, and no two rows before the later of them do
+pub record IsFirstRepeat (rows : List Row) (earlier later : ℕ) : Type 0 where
+  pub order : earlier < later
+  pub within : later < length rows
+  pub same : (d : Row) → (slice_index_or rows earlier d).0 ≡ (slice_index_or rows later d).0
+  pub distinct : HasDistinctKeys (take later rows)
+
 -- the entry of a row with a number
 abbrev pub entry_of : ℕ → Row → Entry
-entry_of number row = record { order = row.0.order; line = row.0.line; row = number }
+entry_of number row = record { key = row.0; row = number }
 
 -- the entries of the rows, in the order of the rows
 abbrev pub entries_of : List Row → List Entry
@@ -17,19 +25,16 @@ entries_of rows = map (λ p. entry_of p.0 p.1) (enumerate_from 0 rows)
 
 -- by key, and by row within one key
 abbrev pub entry_cmp : Entry → Entry → Ordering
-entry_cmp a b = ordering_then (nat_cmp a.order b.order) (ordering_then (nat_cmp a.line b.line) (nat_cmp a.row b.row))
-
-abbrev pub has_same_key : Entry → Entry → Bool
-has_same_key a b = (a.order == b.order) && (a.line == b.line)
+entry_cmp a b = ordering_then (key_cmp a.key b.key) (nat_cmp a.row b.row)
 
 -- two neighbours with one key, of which the later row is below that of the tie so far, or else that tie
 abbrev pub lesser_tie : Option Repeat → Entry → Entry → Option Repeat
-lesser_tie None a b = if has_same_key a b then Some (record { earlier = a.row; later = b.row }) else None
+lesser_tie None a b = if same_key a.key b.key then Some (record { earlier = a.row; later = b.row }) else None
 lesser_tie (Some tie) a b =
-    if has_same_key a b && nat_lt b.row tie.later then Some (record { earlier = a.row; later = b.row }) else Some tie
+    if same_key a.key b.key && nat_lt b.row tie.later then Some (record { earlier = a.row; later = b.row }) else Some tie
 
 abbrev pub HasSameKey : Entry → Entry → Type 0
-HasSameKey a b = (a.order ≡ b.order) × (a.line ≡ b.line)
+HasSameKey a b = a.key ≡ b.key
 
 -- up to a place, no entry has the key of the entry before it
 abbrev pub HasNoTie : List Entry → ℕ → Type 0

@@ -1,17 +1,17 @@
-//! A whole file.
-ghost use Rattle.std.specs.Prelude.{◌≡◌, ◌≤◌, length, IfOk};
+//! A whole file: its lines one after another, and then a look for a key that stands twice.
+ghost use Rattle.std.specs.Prelude.{◌≡◌, ◌≢◌, ◌≤◌, [], length, IfOk};
 ghost use Rattle.cubit_base.specs.Table.{HasDistinctKeys};
 ghost use Rattle.tbl_text.specs.Base.{IsBaseResult};
+ghost use Rattle.tbl_text.specs.FirstRow.{IsFirstRow};
 ghost use Rattle.tbl_text.specs.Lines.{lines_of};
 ghost use Rattle.tbl_text.specs.Reading.{read_from, fault_of_end};
 
 mod repeats;
 mod rows;
 
-use crate::first_row::first_row;
-use crate::{LineFault, Memory};
-use cubit_base::{ROW_LIMIT, Table};
-use rows::Rows;
+use crate::{LineFault, Memory, careful, fast};
+use cubit_base::{Key, ROW_LIMIT, Table, Tuple};
+use rows::ReadRows;
 use std::alloc::Global;
 
 /// Why a file is no base table. Lines count from 1.
@@ -55,7 +55,7 @@ enum ReadEnd {
 // The rows of the lines before that end.
 #[derive(Drop)]
 struct Reading {
-    rows: Rows,
+    rows: ReadRows,
     end: ReadEnd,
 }
 
@@ -88,7 +88,7 @@ fn read_lines(alloc: Global, bytes: &[u8], row_limit: u32) -> Result<Reading, Me
     ensures within { IfOk result (λ r. length r.rows.table ≤ row_limit) }
 {
     let expected_rows = (bytes.len() / SHORT_LINE_LEN).min(row_limit as usize) as u32;
-    let mut rows = Rows::with_capacity(alloc, expected_rows)?;
+    let mut rows = ReadRows::with_capacity(alloc, expected_rows)?;
     let mut rest = bytes;
     while !rest.is_empty() {
         let number = rows.len() + 1;
@@ -109,6 +109,20 @@ fn read_lines(alloc: Global, bytes: &[u8], row_limit: u32) -> Result<Reading, Me
     }
     let end = ReadEnd::File;
     Ok(Reading { rows, end })
+}
+
+// The key and the tuple of the first line and what follows the line, or the line's first fault: by the fast reader, and
+// where that gives up by the careful one.
+#[inline(always)]
+fn first_row(bytes: &[u8]) -> Result<(Key, Tuple, &[u8]), LineFault>
+    requires some { bytes.now ≢ [] }
+    requires few { length bytes.now ≤ u32.MAX }
+    ensures { IsFirstRow bytes.now result }
+{
+    match fast::first_row(bytes) {
+        Some(found) => Ok(found),
+        None => careful::first_row(bytes),
+    }
 }
 
 #[cfg(test)]

@@ -1,12 +1,14 @@
 //! Readers of single fields.
-ghost use Rattle.std.specs.Prelude.{◌≡◌, ◌<◌, ◌≤◌, ◌^◌, ◌&&◌, false, IfSome, MatchOption, length};
+ghost use Rattle.std.specs.Prelude.{◌≡◌, ◌-◌, ◌<◌, ◌≤◌, ◌^◌, ◌&&◌, ◌↔◌, false, length, slice_index, IfSome, IsTrue, MatchOption};
 ghost use Rattle.std.specs.List.{AllPass, prefix_len};
 ghost use Rattle.tbl_text.specs.Field.{is_digit, IsPair, spelled, leading_digits, after_digits, integer_value, hundredths_value, money_value, quantity_value, date_value, is_text, flag_value, status_value};
 
 use cubit_base::{Flag, LineStatus, day_of};
 
-// The digits that an integer may have.
-const MOST_DIGITS: usize = 10;
+/// The most digits that an integer may have.
+pub(crate) const MOST_DIGITS: usize = 10;
+
+const _: () = prove!(MOST_DIGITS == 10);
 
 /// An integer: 1 to 10 decimal digits, leading zeros among them.
 pub fn integer_of(field: &[u8]) -> Option<u64>
@@ -55,17 +57,19 @@ pub fn quantity_of(field: &[u8]) -> Option<u64>
     }
 }
 
+/// Whether all bytes are text.
 pub(crate) fn is_text(field: &[u8]) -> bool
     ensures { result ≡ is_text field.now }
 {
     field.iter().all(|b| (b' '..=b'~').contains(b))
 }
 
-// No branch depends on which of the letters it is, since that cannot be foretold.
+/// The flag that a letter stands for.
 #[inline(always)]
 pub(crate) fn flag_of(field: &[u8]) -> Option<Flag>
     ensures { result ≡ flag_value field.now }
 {
+    // No branch depends on which of the letters it is, since that cannot be foretold.
     match field {
         [letter] => {
             let number = u8::from(*letter == b'N') + 2 * u8::from(*letter == b'R');
@@ -83,6 +87,7 @@ pub(crate) fn flag_of(field: &[u8]) -> Option<Flag>
     }
 }
 
+/// The status that a letter stands for.
 #[inline(always)]
 pub(crate) fn status_of(field: &[u8]) -> Option<LineStatus>
     ensures { result ≡ status_value field.now }
@@ -96,48 +101,22 @@ pub(crate) fn status_of(field: &[u8]) -> Option<LineStatus>
 
 // The integer at the front, and what follows its digits.
 #[inline(always)]
-pub(crate) fn leading_integer(bytes: &[u8]) -> Option<(u64, &[u8])>
+fn leading_integer(bytes: &[u8]) -> Option<(u64, &[u8])>
     ensures value { MatchOption result
         (integer_value (leading_digits bytes.now) ≡ None)
         (λ r. (integer_value (leading_digits bytes.now) ≡ Some r.0) × (r.1.now ≡ after_digits bytes.now)) }
-    ensures within { IfSome result (λ r. r.0 < 10 ^ 10) }
+    ensures within { IfSome result (λ r. r.0 < 10 ^ MOST_DIGITS) }
 {
     let (digits, rest) = bytes.split_at(digit_count(bytes));
     match digits.len() {
-        1..=10 => Some((number_of(digits), rest)),
+        1..=MOST_DIGITS => Some((spelled(digits), rest)),
         _ => None,
     }
 }
 
-/// The integer at the front, and what follows its digits; none also close to the end of the bytes. One loop of a fixed
-/// number of turns counts the digits and reads them.
-#[inline(always)]
-pub(crate) fn front_number(bytes: &[u8]) -> Option<(u64, &[u8])>
-    ensures value { IfSome result (λ r. (integer_value (leading_digits bytes.now) ≡ Some r.0)
-        × (r.1.now ≡ after_digits bytes.now)) }
-    ensures within { IfSome result (λ r. r.0 < 10 ^ 10) }
-{
-    if bytes.len() <= MOST_DIGITS {
-        return None;
-    }
-    let mut number = 0;
-    for at in 0..MOST_DIGITS + 1 {
-        let b = bytes[at];
-        if !b.is_ascii_digit() {
-            return if at == 0 {
-                None
-            } else {
-                Some((number, &bytes[at..]))
-            };
-        }
-        number = number * 10 + u64::from(b - b'0');
-    }
-    None
-}
-
 // How many digits stand at the front.
 #[inline(always)]
-pub(crate) fn digit_count(bytes: &[u8]) -> usize
+fn digit_count(bytes: &[u8]) -> usize
     ensures { result ≡ prefix_len is_digit bytes.now }
 {
     for (at, b) in bytes.iter().enumerate() {
@@ -149,9 +128,9 @@ pub(crate) fn digit_count(bytes: &[u8]) -> usize
 }
 
 #[inline(always)]
-fn number_of(digits: &[u8]) -> u64
+fn spelled(digits: &[u8]) -> u64
     requires digits { AllPass is_digit digits.now }
-    requires few { length digits.now ≤ 10 }
+    requires few { length digits.now ≤ MOST_DIGITS }
     ensures value { result ≡ spelled digits.now }
     ensures within { result < 10 ^ length digits.now }
 {
@@ -175,7 +154,7 @@ fn hundredths_of(bytes: &[u8]) -> Option<u8>
     }
 }
 
-// The number that two digits spell.
+/// The number that two digits spell.
 #[inline(always)]
 pub(crate) fn pair_of(tens: u8, ones: u8) -> Option<u8>
     ensures value { MatchOption result ((is_digit tens && is_digit ones) ≡ false) (IsPair tens ones) }
@@ -185,6 +164,14 @@ pub(crate) fn pair_of(tens: u8, ones: u8) -> Option<u8>
         (b'0'..=b'9', b'0'..=b'9') => Some((tens - b'0') * 10 + (ones - b'0')),
         _ => None,
     }
+}
+
+/// Whether a bar ends the last field of a line.
+#[inline(always)]
+pub(crate) fn ends_in_bar(line: &[u8]) -> bool
+    ensures { IsTrue result ↔ ((1 ≤ length line.now) × (slice_index line.now (length line.now - 1) ≡ 124)) }
+{
+    matches!(line, [.., b'|'])
 }
 
 #[cfg(test)]

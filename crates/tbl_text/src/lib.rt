@@ -3,16 +3,15 @@
 #![tactic(auto)]
 
 mod base;
-mod cursor;
+mod careful;
+mod fast;
 mod field;
-mod fields;
-mod first_row;
 mod line;
 mod lines;
-mod wide;
 
 pub use base::{BaseFault, base_of};
+pub use careful::line_of;
 pub use field::{date_field, integer_of, money_of, quantity_of};
-pub use line::{LineFault, line_of};
+pub use line::LineFault;
 pub use lines::{Line, first_line};
 pub use std::alloc::AllocError as Memory;

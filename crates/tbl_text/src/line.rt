@@ -1,11 +1,8 @@
-//! One line.
-ghost use Rattle.std.specs.Prelude.{◌≡◌, ◌≤◌, length};
-ghost use Rattle.tbl_text.specs.Line.{fault_number, line_value};
+//! What is wrong with a line.
+ghost use Rattle.std.specs.Prelude.{◌≡◌};
+ghost use Rattle.tbl_text.specs.Line.{fault_number};
 
-use crate::fields::judged;
-use cubit_base::{Key, Tuple};
-
-/// What is wrong with a line.
+/// The first thing that is wrong with a line.
 #[derive(Clone, Copy, Debug, PartialEq, Eq)]
 pub enum LineFault {
     /// There are so many fields, and not 16.
@@ -52,15 +49,3 @@ impl LineFault {
         }
     }
 }
-
-/// The key and the tuple of a line without its line end, or the first fault: the number of fields, and then the
-/// fields from left to right. It takes no memory.
-pub fn line_of(bytes: &[u8]) -> Result<(Key, Tuple), LineFault>
-    requires { length bytes.now ≤ 4_294_967_295 }
-    ensures { result ≡ line_value bytes.now }
-{
-    judged(bytes)
-}
-
-#[cfg(test)]
-mod tests;

@@ -2,40 +2,32 @@
 ghost use Rattle.std.specs.Prelude.{◌≡◌, ◌<◌, length, IfOk, MatchOption, IsPermutation};
 ghost use Rattle.std.specs.List.Sorted.{IsSorted};
 ghost use Rattle.cubit_base.specs.Table.{HasDistinctKeys};
-ghost use Rattle.tbl_text.specs.Reading.{IsFirstRepeat};
-ghost use Rattle.tbl_text.specs.Repeats.{entries_of, has_same_key, lesser_tie, HasNoTie, IsLeastTie, entry_cmp};
+ghost use Rattle.tbl_text.specs.Repeats.{IsFirstRepeat, entries_of, lesser_tie, HasNoTie, IsLeastTie, entry_cmp};
 
-use super::rows::Rows;
+use super::rows::ReadRows;
 use crate::Memory;
-use cubit_base::Table;
+use cubit_base::{Key, Table};
 use std::alloc::Global;
 
 /// The numbers of two rows with one key, from 0.
 #[derive(Clone, Copy, Debug, PartialEq, Eq)]
-pub struct Repeat {
-    pub earlier: u32,
-    pub later: u32,
+pub(crate) struct Repeat {
+    pub(crate) earlier: u32,
+    pub(crate) later: u32,
 }
 
 // A row's key and number, in 12 bytes. They are ordered by key, and those of one key by number.
 #[derive(Clone, Copy, Debug, PartialEq, Eq, PartialOrd, Ord)]
 struct Entry {
-    order: u32,
-    line: u8,
+    key: Key,
     row: u32,
 }
 
-impl Entry {
-    fn has_key_of(&self, other: &Entry) -> bool
-        ensures { result ≡ has_same_key self.now other.now }
-    {
-        self.order == other.order && self.line == other.line
-    }
-}
+const _: () = prove!(size_of::<Entry>() == 12);
 
-impl Rows {
+impl ReadRows {
     /// The first row whose key an earlier row has, with that row. Only where keys fell or stayed is memory taken.
-    pub fn first_repeat(&self, alloc: Global) -> Result<Option<Repeat>, Memory>
+    pub(crate) fn first_repeat(&self, alloc: Global) -> Result<Option<Repeat>, Memory>
         ensures { IfOk result (λ found. MatchOption found
             (HasDistinctKeys self.now.table)
             (λ repeat. IsFirstRepeat self.now.table repeat.earlier repeat.later)) }
@@ -56,11 +48,7 @@ fn sorted_entries(alloc: Global, table: &Table) -> Result<Vec<Entry>, Memory>
     let mut entries = Vec::with_capacity(alloc, table.len() as usize)?;
     for row in 0..table.len() {
         let (key, _) = table.row(row).unwrap();
-        entries.push(Entry {
-            order: key.order,
-            line: key.line,
-            row,
-        })?;
+        entries.push(Entry { key, row })?;
     }
     entries.sort_unstable();
     Ok(entries)
@@ -70,7 +58,7 @@ fn sorted_entries(alloc: Global, table: &Table) -> Result<Vec<Entry>, Memory>
 fn lesser_tie(least: Option<Repeat>, earlier: &Entry, later: &Entry) -> Option<Repeat>
     ensures { result ≡ lesser_tie least earlier.now later.now }
 {
-    if !earlier.has_key_of(later) {
+    if earlier.key != later.key {
         return least;
     }
     match least {

@@ -1,7 +1,7 @@
 //! The rows that were read, in the order of their lines.
 ghost use Rattle.std.specs.Prelude.{◌≡◌, ◌<◌, ◌≤◌, [], ◌∷◌, ◌++◌, length, Some, IfOk, OnOk, OnErr, IsTrue, ◌↔◌};
 ghost use Rattle.cubit_base.specs.declared.table.TheConstants.{ROW_LIMIT};
-ghost use Rattle.tbl_text.specs.Reading.{is_above, HasRisingKeys, last_key};
+ghost use Rattle.tbl_text.specs.ReadRows.{is_above, HasRisingKeys, last_key};
 
 use crate::Memory;
 use cubit_base::{Key, Table, Tuple};
@@ -9,10 +9,10 @@ use std::alloc::Global;
 
 /// Rows, and whether each row's key is above the one before it, as in the files that TPC-H's generator writes.
 #[derive(Drop)]
-pub struct Rows {
-    pub table: Table,
+pub(crate) struct ReadRows {
+    pub(crate) table: Table,
     last: Option<Key>,
-    pub are_rising: bool,
+    pub(crate) are_rising: bool,
     ghost ends: { last ≡ last_key table },
     ghost rising: { IsTrue are_rising ↔ HasRisingKeys table },
 }
@@ -22,18 +22,17 @@ fn is_above(key: Key, other: Option<Key>) -> bool
     ensures { result ≡ is_above key other }
 {
     match other {
-        Some(other) => other.order < key.order
-            || (other.order == key.order && other.line < key.line),
+        Some(other) => other < key,
         None => true,
     }
 }
 
-impl Rows {
+impl ReadRows {
     /// No rows, with room for so many.
-    pub fn with_capacity(alloc: Global, rows: u32) -> Result<Rows, Memory>
+    pub(crate) fn with_capacity(alloc: Global, rows: u32) -> Result<ReadRows, Memory>
         ensures { IfOk result (λ r. r.table ≡ []) }
     {
-        Ok(Rows {
+        Ok(ReadRows {
             table: Table::with_capacity(alloc, rows)?,
             last: None,
             are_rising: true,
@@ -41,7 +40,7 @@ impl Rows {
     }
 
     /// The number of rows.
-    pub fn len(&self) -> u32
+    pub(crate) fn len(&self) -> u32
         ensures value { result ≡ length self.now.table }
         ensures within { result ≤ ROW_LIMIT }
     {
@@ -49,7 +48,7 @@ impl Rows {
     }
 
     /// Puts the row of a line at the end.
-    pub fn push(&mut self, key: Key, tuple: Tuple) -> Result<(), Memory>
+    pub(crate) fn push(&mut self, key: Key, tuple: Tuple) -> Result<(), Memory>
         requires { length self.old.table < ROW_LIMIT }
         ensures ok { OnOk result (self.new.table ≡ self.old.table ++ (key, Some tuple) ∷ []) }
         ensures err { OnErr result (self.new.table ≡ self.old.table) }
@@ -61,7 +60,7 @@ impl Rows {
     }
 
     /// The table of the rows.
-    pub fn into_table(self) -> Table
+    pub(crate) fn into_table(self) -> Table
         ensures { result ≡ self.table }
     {
         self.table

@@ -3,23 +3,26 @@ use cubit_base::{Flag, Key, LineStatus, Tuple};
 use std::alloc::AllocError;
 use std::test::Fail;
 
-const FIRST: &[u8] =
-    b"1|155190|7706|1|17|21168.23|0.04|0.02|N|O|1996-03-13|1996-02-12|1996-03-22|DELIVER IN PERSON|TRUCK|egular courts above the|";
+const FIRST: &[u8] = b"1|155190|7706|1|17|21168.23|0.04|0.02|N|O|1996-03-13|1996-02-12|1996-03-22|\
+    DELIVER IN PERSON|TRUCK|egular courts above the|";
 
-const SECOND: &[u8] =
-    b"1|67310|7311|2|36|45983.16|0.09|0.06|N|O|1996-04-12|1996-02-28|1996-04-20|TAKE BACK RETURN|MAIL|ly final dependencies: slyly bold |";
+const SECOND: &[u8] = b"1|67310|7311|2|36|45983.16|0.09|0.06|N|O|1996-04-12|1996-02-28|1996-04-20|\
+    TAKE BACK RETURN|MAIL|ly final dependencies: slyly bold |";
 
-const THIRD: &[u8] =
-    b"1|63700|3701|3|8|13309.60|0.10|0.02|N|O|1996-01-29|1996-03-05|1996-01-31|TAKE BACK RETURN|REG AIR|riously. regular, express dep|";
+const THIRD: &[u8] = b"1|63700|3701|3|8|13309.60|0.10|0.02|N|O|1996-01-29|1996-03-05|1996-01-31|\
+    TAKE BACK RETURN|REG AIR|riously. regular, express dep|";
 
-const FOURTH: &[u8] =
-    b"1|2132|4633|4|28|28955.64|0.09|0.06|N|O|1996-04-21|1996-03-30|1996-05-16|NONE|AIR|lites. fluffily even de|";
+const FOURTH: &[u8] = b"1|2132|4633|4|28|28955.64|0.09|0.06|N|O|1996-04-21|1996-03-30|1996-05-16|\
+    NONE|AIR|lites. fluffily even de|";
 
 // The four lines, each with another end or spelling.
 const MIXED: [&[u8]; 4] = [
-    b"1|155190|7706|1|17|21168.23|0.04|0.02|N|O|1996-03-13|1996-02-12|1996-03-22|DELIVER IN PERSON|TRUCK|egular courts above the|\r\n",
-    b"1|67310|7311|2|36.00|45983.16|0.09|0.06|N|O|1996-04-12|1996-02-28|1996-04-20|TAKE BACK RETURN|MAIL|ly final dependencies: slyly bold \n",
-    b"0001|63700|3701|03|08.0|013309.6|0.1|00.02|N|O|1996-01-29|1996-03-05|1996-01-31|TAKE BACK RETURN|REG AIR|riously. regular, express dep|\n",
+    b"1|155190|7706|1|17|21168.23|0.04|0.02|N|O|1996-03-13|1996-02-12|1996-03-22|\
+      DELIVER IN PERSON|TRUCK|egular courts above the|\r\n",
+    b"1|67310|7311|2|36.00|45983.16|0.09|0.06|N|O|1996-04-12|1996-02-28|1996-04-20|\
+      TAKE BACK RETURN|MAIL|ly final dependencies: slyly bold \n",
+    b"0001|63700|3701|03|08.0|013309.6|0.1|00.02|N|O|1996-01-29|1996-03-05|1996-01-31|\
+      TAKE BACK RETURN|REG AIR|riously. regular, express dep|\n",
     b"1|2132|4633|4|28|28955.64|0.09|0.06|N|O|1996-04-21|1996-03-30|1996-05-16|NONE|AIR|lites. fluffily even de",
 ];
 
@@ -65,6 +68,46 @@ fn counts_rows_or_finds_first_fault(rt: HostRuntime) -> Result<(), Fail> {
             assert_eq!(rt; found, want, "with limit {row_limit}");
         }
     }
+    Ok(())
+}
+
+// Lines of rising orders from 1 on.
+fn rising_lines(alloc: Global, count: u32) -> Result<String, AllocError> {
+    let mut file = String::new(alloc);
+    for order in 1..=count {
+        push_line(alloc, &mut file, order)?;
+    }
+    Ok(file)
+}
+
+// Puts a line of this order at the end.
+fn push_line(alloc: Global, file: &mut String, order: u32) -> Result<(), AllocError> {
+    let front = "155190|7706|1|17|21168.23|0.04|0.02|N|O|1996-03-13|1996-02-12";
+    let line = format!(in alloc;
+        "{order}|{front}|1996-03-22|DELIVER IN PERSON|TRUCK|egular courts|\n"
+    )?;
+    file.push_str(line.as_str())
+}
+
+// Memory is found for more than a megabyte.
+#[test]
+fn reads_long_file(rt: HostRuntime) -> Result<(), Fail> {
+    let file = rising_lines(rt.alloc(), 10_000)?;
+    assert!(rt; 1_000_000 < file.len() && file.len() < 2_000_000);
+    let count = base_of(rt.alloc(), file.as_bytes(), 10_000).map(|table| table.len());
+    assert_eq!(rt; count, Ok(10_000));
+    Ok(())
+}
+
+#[test]
+fn finds_repeat_far_behind(rt: HostRuntime) -> Result<(), Fail> {
+    let mut file = rising_lines(rt.alloc(), 5000)?;
+    for order in [6000, 3000, 4000, 6000] {
+        push_line(rt.alloc(), &mut file, order)?;
+    }
+    assert!(rt; file.len() < 1_000_000);
+    let count = base_of(rt.alloc(), file.as_bytes(), ROW_LIMIT).map(|table| table.len());
+    assert_eq!(rt; count, Err(BaseFault::Twice(5002, 3000)));
     Ok(())
 }
 

@@ -1,5 +1,5 @@
 use Rattle.std.proofs.Common.{arith, rules}
-use Rattle.tbl_text.proofs.ReadLines.{read-too_many}
+use Rattle.tbl_text.proofs.LineByLine.{read-too_many}
 use Rattle.tbl_text.proofs.base.read_lines.Goals as goal
 
 pub returns-then-number-row_limit-clause-value : goal.returns-then-number-row_limit-clause-value

@@ -1,7 +1,7 @@
 use Rattle.std.proofs.Common.{◌≡◌, ◌≤◌, length}
 use Rattle.tbl_text.specs.Lines.{lines_of}
 use Rattle.tbl_text.specs.Reading.{read_from}
-use Rattle.tbl_text.proofs.ReadLines.{with_front}
+use Rattle.tbl_text.proofs.LineByLine.{with_front}
 use Rattle.tbl_text.proofs.base.read_lines.Given as goal
 
 -- the rows so far and what is read of the rest are what is read of all

@@ -1,0 +1,10 @@
+use Rattle.tbl_text.proofs.RisingKeys.{HasRisingKeys-distinct}
+use Rattle.tbl_text.proofs.SortedKeys.{first_repeat-least_tie}
+use Rattle.tbl_text.proofs.base.rows.ReadRows.first_repeat.Goals as goal
+
+pub returns-then-self : goal.returns-then-self
+returns-then-self c = HasRisingKeys-distinct c.args.self.now.table (c.args.self.now.rising.0 c.if-self.true)
+
+pub returns : goal.returns
+returns c =
+    first_repeat-least_tie c.args.self.now.table c.in_ok-entries.entries.items c.least_tie.result c.in_ok-entries.ensures.moved c.in_ok-entries.ensures.sorted (rw c.deref.ensures.value at c.least_tie.ensures)

@@ -1,5 +1,0 @@
-use Rattle.tbl_text.proofs.Taking.{takes_date}
-use Rattle.tbl_text.proofs.cursor.Cursor.date.Goals as goal
-
-pub returns-clause-value : goal.returns-clause-value
-returns-clause-value c = takes_date _ _ _ c.date_field.result c.in_ok-field_of_len.ensures.cut c.date_field.ensures.value

@@ -1,5 +1,0 @@
-use Rattle.tbl_text.proofs.Taking.{takes_digits}
-use Rattle.tbl_text.proofs.cursor.Cursor.digits.Goals as goal
-
-pub returns : goal.returns
-returns c = takes_digits _ _ _ _ c.in_ok-count.ensures c.in_ok-field_of_len.ensures.field c.in_ok-field_of_len.ensures.cut

@@ -1,8 +1,0 @@
-use Rattle.std.proofs.Common.{◌≡◌, ◌<◌, ◌^◌, drop}
-use Rattle.tbl_text.specs.Field.{spelled, spelled_after}
-use Rattle.tbl_text.proofs.field.number_of.Given as goal
-
--- what is left completes the number
-abbrev pub invariant-loop-b : goal.invariant-loop-b
-invariant-loop-b l =
-    (spelled l.digits ≡ spelled_after l.number (drop l.b-index l.digits)) × (l.number < 10 ^ l.b-index)
