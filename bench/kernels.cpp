@@ -1,7 +1,8 @@
 /*
  * The C++ twin of the program that measures the word kernels: the same vectors
  * from the same seed, the same words in the same canonical form, the same
- * checksum. It says how fast plain C++ does it on one thread.
+ * checksum. It says how fast C++ does it on one thread that is written with care,
+ * but without instructions written by hand.
  *
  * kernels KERNEL-FORM SEED SIZE ROUNDS [--times]
  */
@@ -12,7 +13,8 @@
 #include <cstdint>
 #include <cstdio>
 #include <cstdlib>
-#include <optional>
+#include <cstring>
+#include <memory>
 #include <string_view>
 #include <utility>
 #include <vector>
@@ -52,29 +54,53 @@ static inline bool is_mixed(uint32_t group)
     return group - 1 < ALL_TRUE - 1;
 }
 
+/*
+ * The words in room that is taken once and not cleared, since each word is
+ * written before it is read.
+ */
 class Bitvector {
 public:
-    std::vector<uint32_t> words;
     uint32_t rows;
 
-    Bitvector(uint32_t rows, size_t capacity) : rows(rows) { words.reserve(capacity); }
+    Bitvector(uint32_t rows, size_t capacity) : rows(rows), room(new uint32_t[capacity]), last(room.get()) {}
+
+    const uint32_t *begin() const { return room.get(); }
+    const uint32_t *end() const { return last; }
+    size_t size() const { return size_t(end() - begin()); }
 
     /* Puts so many groups of one value at the end; more than one are all false or all true. */
     void push_run(Run run)
     {
         if (is_mixed(run.group))
-            words.push_back(run.group);
+            *last++ = run.group;
         else
             push_fill(run.group == 0 ? FALSE_FILL : TRUE_FILL, run.count);
     }
 
+    /* Puts words at the end that join no word before them. */
+    void push_words(const uint32_t *words, size_t count)
+    {
+        memcpy(last, words, count * sizeof *words);
+        last += count;
+    }
+
+    /* Room for so many words more, to be written by the caller. */
+    uint32_t *push_room(size_t count)
+    {
+        last += count;
+        return last - count;
+    }
+
 private:
+    std::unique_ptr<uint32_t[]> room;
+    uint32_t *last;
+
     void push_fill(uint32_t lowest, uint32_t count)
     {
-        if (!words.empty() && words.back() >> 30 == lowest >> 30)
-            words.back() += count;
+        if (last != begin() && last[-1] >> 30 == lowest >> 30)
+            last[-1] += count;
         else
-            words.push_back(lowest + count);
+            *last++ = lowest + count;
     }
 };
 
@@ -82,8 +108,9 @@ private:
 class Cursor {
 public:
     Run run = { 0, 0 };
+    const uint32_t *at;
 
-    explicit Cursor(const std::vector<uint32_t> &words) : at(words.data()), end(at + words.size()) {}
+    explicit Cursor(const Bitvector &words) : at(words.begin()), end(words.end()) {}
 
     /* Goes on to the next word where the run has ended; false where there is none. */
     bool refill()
@@ -96,35 +123,67 @@ public:
         return true;
     }
 
+    /* Whether a whole block of words comes next. */
+    bool has_block() const { return run.count == 0 && end - at >= BLOCK; }
+
+    static constexpr int BLOCK = 8;
+
 private:
-    const uint32_t *at, *end;
+    const uint32_t *end;
 };
+
+/*
+ * Literals beside literals by blocks, with no branch within one, up to a block
+ * that has a fill on either side or makes a group that is all false or all true.
+ */
+template <class Operation>
+static inline void push_blocks(Bitvector &out, Cursor &left, Cursor &right, Operation operation)
+{
+    while (left.has_block() && right.has_block()) {
+        uint32_t block[Cursor::BLOCK], heads = 0, odd = 0;
+        for (int i = 0; i < Cursor::BLOCK; i++) {
+            heads |= left.at[i] | right.at[i];
+            block[i] = operation(left.at[i], right.at[i]);
+            odd |= is_mixed(block[i]) ? 0 : 1;
+        }
+        if (heads >= FALSE_FILL || odd)
+            return;
+        out.push_words(block, Cursor::BLOCK);
+        left.at += Cursor::BLOCK;
+        right.at += Cursor::BLOCK;
+    }
+}
 
 template <class Operation>
 static Bitvector combined(const Bitvector &a, const Bitvector &b, Operation operation)
 {
-    Bitvector out(a.rows, std::min<size_t>(a.words.size() + b.words.size(), groups_for(a.rows)));
-    Cursor left(a.words), right(b.words);
-    while (left.refill() && right.refill()) {
-        uint32_t count = std::min(left.run.count, right.run.count);
-        out.push_run({ operation(left.run.group, right.run.group), count });
-        left.run.count -= count;
-        right.run.count -= count;
+    Bitvector out(a.rows, std::min<size_t>(a.size() + b.size(), groups_for(a.rows)));
+    Cursor left(a), right(b);
+    for (;;) {
+        push_blocks(out, left, right, operation);
+        /* Where no block came, the next words hardly begin one. */
+        for (int step = 0; step < Cursor::BLOCK; step++) {
+            if (!left.refill() || !right.refill())
+                return out;
+            uint32_t count = std::min(left.run.count, right.run.count);
+            out.push_run({ operation(left.run.group, right.run.group), count });
+            left.run.count -= count;
+            right.run.count -= count;
+        }
     }
-    return out;
 }
 
 /* Words that are turned one by one stay canonical, but for rows of the last group that are past the last row. */
 static Bitvector complement(const Bitvector &a)
 {
-    Bitvector out(a.rows, a.words.size() + 1);
-    if (a.words.empty())
+    Bitvector out(a.rows, a.size() + 1);
+    if (a.size() == 0)
         return out;
-    size_t front = a.words.size() - 1;
-    out.words.resize(front);
+    size_t front = a.size() - 1;
+    uint32_t *words = out.push_room(front);
     for (size_t i = 0; i < front; i++)
-        out.words[i] = a.words[i] ^ (a.words[i] < FALSE_FILL ? ALL_TRUE : VALUE_BIT);
-    Run last = run_of(a.words.back());
+        words[i] = a.begin()[i] ^ (a.begin()[i] < FALSE_FILL ? ALL_TRUE : VALUE_BIT);
+    Run last = run_of(a.end()[-1]);
     last.group ^= ALL_TRUE;
     if (last.count > 1)
         out.push_run({ last.group, last.count - 1 });
@@ -133,15 +192,23 @@ static Bitvector complement(const Bitvector &a)
     return out;
 }
 
+static inline uint64_t literal_group(uint32_t word)
+{
+    return word < FALSE_FILL ? word : 0;
+}
+
+/* Literals are counted two at a time without a branch; fills of true rows are rare. */
 static uint32_t true_count(const Bitvector &a)
 {
     uint32_t total = 0;
-    for (uint32_t word : a.words) {
-        if (word < FALSE_FILL)
-            total += uint32_t(__builtin_popcount(word));
-        else if (word & VALUE_BIT)
-            total += (word & COUNT_BITS) * GROUP_ROWS;
+    const uint32_t *at = a.begin();
+    auto fill_rows = [](uint32_t word) { return word < TRUE_FILL ? 0 : (word & COUNT_BITS) * GROUP_ROWS; };
+    for (; a.end() - at >= 2; at += 2) {
+        total += uint32_t(__builtin_popcountll(literal_group(at[0]) | literal_group(at[1]) << 32));
+        total += fill_rows(at[0]) + fill_rows(at[1]);
     }
+    if (at != a.end())
+        total += uint32_t(__builtin_popcountll(literal_group(*at))) + fill_rows(*at);
     return total;
 }
 
@@ -175,23 +242,51 @@ public:
     /* Writes the groups of a page, and 0 where there are none. */
     void window(uint32_t page, Page &out) const
     {
+        out.fill(0);
+        or_into(page, out.data(), PAGE_GROUPS);
+    }
+
+    /*
+     * Puts so many groups from a page on into the caller's, by or. A literal and
+     * a fill of false rows go without a branch.
+     */
+    void or_into(uint32_t page, uint32_t *out, uint32_t count) const
+    {
+        if (page >= fences.size())
+            return;
+        const uint32_t *word = bitvector.begin() + fences[page].word, *end = bitvector.end();
         uint32_t at = 0;
-        if (page < fences.size()) {
-            uint32_t skipped = fences[page].skipped;
-            for (size_t i = fences[page].word; i < bitvector.words.size() && at < PAGE_GROUPS; i++) {
-                uint32_t word = bitvector.words[i];
-                if (word < FALSE_FILL) {
-                    out[at++] = word;
+        if (fences[page].skipped != 0) {
+            Run run = run_of(*word++);
+            at = std::min(run.count - fences[page].skipped, count);
+            if (run.group != 0)
+                std::fill(out, out + at, ALL_TRUE);
+        }
+        constexpr int BLOCK = 8;
+        while (at < count && word != end) {
+            if (count - at >= BLOCK && end - word >= BLOCK) {
+                uint32_t heads = 0;
+                for (int i = 0; i < BLOCK; i++)
+                    heads |= word[i];
+                if (heads < FALSE_FILL) {
+                    for (int i = 0; i < BLOCK; i++)
+                        out[at + i] |= word[i];
+                    at += BLOCK, word += BLOCK;
                     continue;
                 }
-                Run run = run_of(word);
-                uint32_t end = std::min(at + (run.count - skipped), PAGE_GROUPS);
-                std::fill(out.begin() + at, out.begin() + end, run.group);
-                at = end;
-                skipped = 0;
+            }
+            for (int step = 0; step < BLOCK && at < count && word != end; step++, word++) {
+                if (__builtin_expect(*word >= TRUE_FILL, 0)) {
+                    uint32_t after = std::min(at + (*word & COUNT_BITS), count);
+                    std::fill(out + at, out + after, ALL_TRUE);
+                    at = after;
+                    continue;
+                }
+                uint32_t fill = 0 - (*word >> 31);
+                out[at] |= *word & ~fill;
+                at += (*word & COUNT_BITS & fill) | (1 & ~fill);
             }
         }
-        std::fill(out.begin() + at, out.end(), 0);
     }
 
 private:
@@ -204,8 +299,8 @@ private:
     Place next_page(Place place) const
     {
         uint32_t left = place.skipped + PAGE_GROUPS;
-        for (; place.word < bitvector.words.size(); place.word++) {
-            uint32_t count = run_of(bitvector.words[place.word]).count;
+        for (; place.word < bitvector.size(); place.word++) {
+            uint32_t count = run_of(bitvector.begin()[place.word]).count;
             if (left < count)
                 return { place.word, left };
             left -= count;
@@ -227,38 +322,43 @@ static uint32_t xor_of(const Fenced &a)
     return xor_so_far;
 }
 
-static void or_windows(const Fenced *bins, size_t count, uint32_t number, Page &page)
-{
-    Page window;
-    page.fill(0);
-    for (size_t bin = 0; bin < count; bin++) {
-        bins[bin].window(number, window);
-        for (uint32_t i = 0; i < PAGE_GROUPS; i++)
-            page[i] |= window[i];
-    }
-}
-
-static void and_into(Page &page, const Page &other)
-{
-    for (uint32_t i = 0; i < PAGE_GROUPS; i++)
-        page[i] &= other[i];
-}
-
-/* How many rows are true in a bin of each of three columns. */
+/* How many rows are true in a bin of each of three columns, a column after the other for some pages at a time. */
 constexpr size_t QUANTITIES = 23, MONTHS = 12, DISCOUNTS = 3;
+constexpr uint32_t BLOCK_PAGES = 32;
+using Block = std::array<uint32_t, BLOCK_PAGES * PAGE_GROUPS>;
+
+static void or_column(const Fenced *bins, size_t count, uint32_t first, Block &block)
+{
+    block.fill(0);
+    for (size_t bin = 0; bin < count; bin++)
+        bins[bin].or_into(first, block.data(), block.size());
+}
+
+static void and_into(Block &block, const Block &other)
+{
+    for (size_t i = 0; i < block.size(); i++)
+        block[i] &= other[i];
+}
+
+static uint64_t true_rows(const Block &block)
+{
+    uint64_t total = 0;
+    for (size_t i = 0; i < block.size(); i += 2)
+        total += uint64_t(__builtin_popcountll(block[i] | uint64_t(block[i + 1]) << 32));
+    return total;
+}
 
 static uint64_t selected(const Fenced *bins)
 {
     uint64_t total = 0;
-    Page page, other;
-    for (uint32_t number = 0; number < pages_for(bins[0].bitvector.rows); number++) {
-        or_windows(bins, QUANTITIES, number, page);
-        or_windows(bins + QUANTITIES, MONTHS, number, other);
-        and_into(page, other);
-        or_windows(bins + QUANTITIES + MONTHS, DISCOUNTS, number, other);
-        and_into(page, other);
-        for (uint32_t group : page)
-            total += uint64_t(__builtin_popcount(group));
+    Block block, other;
+    for (uint32_t first = 0; first < pages_for(bins[0].bitvector.rows); first += BLOCK_PAGES) {
+        or_column(bins + QUANTITIES + MONTHS, DISCOUNTS, first, block);
+        or_column(bins + QUANTITIES, MONTHS, first, other);
+        and_into(block, other);
+        or_column(bins, QUANTITIES, first, other);
+        and_into(block, other);
+        total += true_rows(block);
     }
     return total;
 }
@@ -362,7 +462,7 @@ struct Checksum {
 
     void add(const Bitvector &bitvector)
     {
-        for (uint32_t word : bitvector.words)
+        for (uint32_t word : bitvector)
             add(word);
     }
 };

@@ -7,6 +7,7 @@ use Rattle.std.proofs.lemmas.Simd.{bit_mask_l}
 use lib.Lanes.{mask_l}
 use Rattle.wah_words.specs.Group.{group_at}
 
+-- past the last row each group is 0
 pub group_at-past : (list : List Bool) (k : ℕ) → length list ≤ 31 * k → group_at list k ≡ 0
 group_at-past list k past = ap (λ rest. mask_l (take 31 rest)) (drop_all (31 * k) list past)
 
@@ -17,7 +18,8 @@ test-cond true = refl
 test-cond false = refl
 
 -- a row is a bit of its group
-pub row_from_group : (list : List Bool) (row group : ℕ) → row < length list → group ≡ group_at list (row / 31) → slice_get list row ≡ Some (eqb (group / 2 ^ (row % 31) % 2) 1)
+pub row_from_group : (list : List Bool) (row group : ℕ) → row < length list → group ≡ group_at list (row / 31)
+    → slice_get list row ≡ Some (eqb (group / 2 ^ (row % 31) % 2) 1)
 row_from_group list row group within is =
     let place : 31 * (row / 31) + row % 31 ≡ row = omega arith in
     let chunk = take 31 (drop (31 * (row / 31)) list) in

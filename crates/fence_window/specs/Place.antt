@@ -17,7 +17,8 @@ pub record IsAfter (words : List ℕ) (before : ℕ) (place : Place) : Type 0 wh
 
 -- each fence stands at the first group of its page
 abbrev pub AreFences : List ℕ → List Place → Type 0
-AreFences words fences = (page : ℕ) (other : Place) → page < length fences → IsAfter words (128 * page) (slice_index_or fences page other)
+AreFences words fences = (page : ℕ) (other : Place) → page < length fences
+    → IsAfter words (128 * page) (slice_index_or fences page other)
 
 -- one fence for each page of the list, in the words that spell it
 pub record HasFences (list : List Bool) (fences : List Place) : Type 0 where

@@ -7,12 +7,17 @@ use crate::Memory;
 use crate::place::{Place, advanced, write_groups};
 use std::alloc::Global;
 use std::marker::Model;
-use wah_words::{Run, Wah, one_spelling};
+use wah_words::{GROUP_ROWS, Run, Wah, one_spelling};
 
-/// The groups of a page, of 31 rows each.
+// The groups of a page, and the length of the array that takes them.
 const PAGE_GROUPS: u32 = 128;
-/// The rows of a page: 128 groups of 31.
-pub const PAGE_ROWS: u32 = 3_968;
+/// The rows of a page.
+pub const PAGE_ROWS: u32 = PAGE_GROUPS * GROUP_ROWS;
+
+// The numbers of the definition of a page.
+const _: () = prove!(PAGE_GROUPS == 128);
+
+const _: () = prove!(PAGE_ROWS == 3_968);
 
 /// A bitvector whose pages are reached without a walk from its first word; contracts see its list.
 #[derive(Drop)]
@@ -34,7 +39,7 @@ impl Model for Fenced {
 }
 
 impl Fenced {
-    /// The bitvector, with its fences.
+    /// The bitvector, with its fences. It takes one pass over the words.
     pub fn make(alloc: Global, wah: Wah) -> Result<Fenced, Memory>
         ensures { IfOk result (λ fenced. fenced ≡ wah) }
     {
@@ -65,15 +70,14 @@ impl Fenced {
         requires { row < length self.now }
         ensures { slice_get self.now row ≡ Some result }
     {
-        let group = row / 31;
+        let group = row / GROUP_ROWS;
         let words = self.wah.words();
         let fence = self.fences[(group / PAGE_GROUPS) as usize];
         let place = advanced(words, fence, group % PAGE_GROUPS);
-        (Run::of_word(words[place.word]).group >> (row % 31)) & 1 == 1
+        (Run::of_word(words[place.word]).group >> (row % GROUP_ROWS)) & 1 == 1
     }
 }
 
-/// The place at which each page begins.
 fn fences_of(alloc: Global, wah: &Wah) -> Result<Vec<Place>, Memory>
     ensures { IfOk result (λ fences. HasFences wah.now fences.items) }
 {

@@ -1,4 +1,30 @@
-//! Fences into a bitvector's words: the groups of any page without a walk from the first word.
+//! Pages of a bitvector: for each 3,968 rows a fence says where in the words they begin, so that a reader of one page
+//! walks the words of that page alone. Callers see a [`Fenced`] as the list of its bitvector.
+//!
+//! # Proved
+//!
+//! - `Fenced::make`, `wah`: the list is that of the bitvector that was given, and so are its words.
+//! - `Fenced::window`: the 128 groups of a page, and 0 where the list has none, at every page number.
+//! - `Fenced::get`: the truth value of a row.
+//! - No call but `make` takes memory, and every call returns.
+//!
+//! # Only tested
+//!
+//! - That `make` succeeds, on lists of up to 130,000 rows, and on the longest list there is.
+//!
+//! # Not said
+//!
+//! - Time: no clause says that a window walks only the words of its page.
+//! - When there is no memory: `make` lets the bitvector go then.
+//!
+//! # Example
+//!
+//! ```
+//! let fenced = Fenced::make(alloc, Wah::from_places(alloc, &[0, 3_968], 4_000)?)?;
+//! let mut page = [0; 128];
+//! fenced.window(1, &mut page);
+//! assert!(rt; page[0] == 1 && fenced.get(0));
+//! ```
 #![tactic(auto)]
 
 mod fenced;

@@ -7,13 +7,13 @@ use wah_words::{Run, is_literal};
 
 /// A word, and how many groups of its run lie before the place.
 #[derive(Clone, Copy)]
-pub struct Place {
-    pub word: usize,
-    pub skipped: u32,
+pub(crate) struct Place {
+    pub(crate) word: usize,
+    pub(crate) skipped: u32,
 }
 
 /// The place so many groups further on, or the end of the words.
-pub fn advanced(words: &[u32], place: Place, groups: u32) -> Place
+pub(crate) fn advanced(words: &[u32], place: Place, groups: u32) -> Place
     requires { place.skipped + groups < 2 ^ 32 }
     ensures rest { groups_from words.now result ≡ drop groups (groups_from words.now place) }
     ensures inside { result.skipped < run_count (slice_index words.now result.word) }
@@ -37,7 +37,7 @@ pub fn advanced(words: &[u32], place: Place, groups: u32) -> Place
 }
 
 /// Writes the groups from a place on, and 0 after the last.
-pub fn write_groups(words: &[u32], place: Place, out: &mut [u32; 128])
+pub(crate) fn write_groups(words: &[u32], place: Place, out: &mut [u32; 128])
     requires { place.skipped ≤ run_count (slice_index words.now place.word) }
     ensures { (i : ℕ) → i < 128 → slice_index out.new i ≡ slice_index (groups_from words.now place) i }
 {
@@ -53,7 +53,7 @@ pub fn write_groups(words: &[u32], place: Place, out: &mut [u32; 128])
     out[at..].fill(0);
 }
 
-/// Writes the groups of a word after the skipped ones, as far as there is room, and gives the place after them.
+// Writes the groups of a word after the skipped ones, as far as there is room, and gives the place after them.
 #[inline(always)]
 fn write_word(out: &mut [u32; 128], at: usize, word: u32, skipped: u32) -> usize
     requires room { at < 128 }

@@ -5,3 +5,4 @@ pub mod Mix
 pub mod Names
 pub mod Pages
 pub mod Rounds
+pub mod Times

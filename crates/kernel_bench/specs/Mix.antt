@@ -1,17 +1,14 @@
 -- The mix of a checksum.
-use Rattle.std.specs.Prelude.{ℕ, ◌*◌, ◌/◌, ◌%◌, ◌^◌, List, [], ◌∷◌, bit_xor}
+use Rattle.std.specs.Prelude.{ℕ, ◌*◌, ◌%◌, ◌^◌, List, [], ◌∷◌, bit_xor}
+use Rattle.kernel_bench.specs.Draws.{folded}
 
 -- an odd number whose bits look random: 2 ^ 64 over the golden ratio
 abbrev pub factor : ℕ
 factor = 11400714819323198485
 
--- a number whose high bits are folded into its low ones
-abbrev pub folded : ℕ → ℕ
-folded n = bit_xor n (n / 2 ^ 32)
-
 -- the mix with one word more
 abbrev pub stirred : ℕ → ℕ → ℕ
-stirred mix word = folded (bit_xor mix word * factor % 2 ^ 64)
+stirred mix word = folded 32 (bit_xor mix word * factor % 2 ^ 64)
 
 -- the mix with the words in their order
 abbrev pub mixed : ℕ → List ℕ → ℕ

@@ -1,5 +1,5 @@
 -- What the kernels make that read page by page.
-use Rattle.std.specs.Prelude.{ℕ, zero, suc, ◌≡◌, ◌+◌, ◌*◌, ◌<◌, Bool, List, [], ◌∷◌, length, slice_index, sum_by, bit_and, bit_or, bit_xor, count_ones}
+use Rattle.std.specs.Prelude.{ℕ, zero, suc, ◌≡◌, ◌+◌, ◌*◌, ◌<◌, Bool, List, [], ◌∷◌, length, take, drop, slice_index, sum_by, bit_and, bit_or, bit_xor, count_ones}
 use Rattle.wah_words.specs.Group.{group_at}
 use Rattle.fence_window.specs.Window.{IsWindow}
 
@@ -12,7 +12,8 @@ xor_into xor (group ∷ groups) = xor_into (bit_xor xor group) groups
 abbrev pub IsXor : List Bool → ℕ → ℕ → Type 0
 IsXor list zero xor = xor ≡ 0
 IsXor list (suc page) xor =
-    (before : ℕ) × (window : List ℕ) × IsXor list page before × (length window ≡ 128) × IsWindow list page window × (xor ≡ xor_into before window)
+    (before : ℕ) × (window : List ℕ) × IsXor list page before × (length window ≡ 128) × IsWindow list page window
+    × (xor ≡ xor_into before window)
 
 -- a number and group k of each list, with or
 abbrev pub or_into : ℕ → List (List Bool) → ℕ → ℕ
@@ -38,4 +39,9 @@ pub record IsSelectedIn (quantities months discounts : List (List Bool)) (page t
 abbrev pub IsSelected : List (List Bool) → List (List Bool) → List (List Bool) → ℕ → ℕ → Type 0
 IsSelected quantities months discounts zero total = total ≡ 0
 IsSelected quantities months discounts (suc page) total =
-    (before : ℕ) × (count : ℕ) × IsSelected quantities months discounts page before × IsSelectedIn quantities months discounts page count × (total ≡ before + count)
+    (before : ℕ) × (count : ℕ) × IsSelected quantities months discounts page before
+    × IsSelectedIn quantities months discounts page count × (total ≡ before + count)
+
+-- the same for the lists of three columns one after another: 23 quantities, 12 months and 3 discounts
+abbrev pub IsSelectedOf : List (List Bool) → ℕ → ℕ → Type 0
+IsSelectedOf lists pages total = IsSelected (take 23 lists) (take 12 (drop 23 lists)) (drop 35 lists) pages total

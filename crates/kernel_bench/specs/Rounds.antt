@@ -17,7 +17,7 @@ pub record IsRound (kernel : Kernel) (lists : List (List Bool)) (old new : Check
   pub adds : Adds old new outcome
 
 -- the checksum is what so many rounds make
-abbrev pub IsAfter : ℕ → Kernel → List (List Bool) → Checksum → Type 0
-IsAfter zero kernel lists checksum = (checksum.words ≡ 0) × (checksum.mix ≡ 0)
-IsAfter (suc rounds) kernel lists checksum =
-    (before : Checksum) × IsAfter rounds kernel lists before × IsRound kernel lists before checksum
+abbrev pub IsAfterRounds : ℕ → Kernel → List (List Bool) → Checksum → Type 0
+IsAfterRounds zero kernel lists checksum = (checksum.words ≡ 0) × (checksum.mix ≡ 0)
+IsAfterRounds (suc rounds) kernel lists checksum =
+    (before : Checksum) × IsAfterRounds rounds kernel lists before × IsRound kernel lists before checksum

@@ -8,13 +8,13 @@ use std::fmt;
 
 /// How many words went in, and a mix of them in their order.
 #[derive(Drop)]
-pub struct Checksum {
-    pub words: u64,
-    pub mix: u64,
+pub(crate) struct Checksum {
+    pub(crate) words: u64,
+    pub(crate) mix: u64,
 }
 
 impl Checksum {
-    pub fn new() -> Checksum
+    pub(crate) fn new() -> Checksum
         ensures words { result.words ≡ 0 }
         ensures mix { result.mix ≡ 0 }
     {
@@ -22,7 +22,7 @@ impl Checksum {
     }
 
     /// Puts in the words of an outcome; a number is one word.
-    pub fn add(&mut self, outcome: &Outcome)
+    pub(crate) fn add(&mut self, outcome: &Outcome)
         ensures { Adds self.old self.new outcome.now }
     {
         match outcome {
@@ -56,7 +56,7 @@ impl fmt::Display for Checksum {
     }
 }
 
-/// The mix with one word more.
+// The mix with one word more.
 fn stir(mix: u64, word: u64) -> u64
     ensures { result ≡ stirred mix word }
 {

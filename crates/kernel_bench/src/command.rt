@@ -6,19 +6,19 @@ use crate::kernel::Kernel;
 
 /// The words `KERNEL-FORM SEED SIZE ROUNDS`, read, and whether `--times` follows.
 #[derive(Drop)]
-pub struct Command {
-    pub kernel: Kernel,
-    pub form: Form,
-    pub seed: u64,
+pub(crate) struct Command {
+    pub(crate) kernel: Kernel,
+    pub(crate) form: Form,
+    pub(crate) seed: u64,
     /// The rows of each input.
-    pub size: u32,
-    pub rounds: u32,
-    pub tells_times: bool,
+    pub(crate) size: u32,
+    pub(crate) rounds: u32,
+    pub(crate) tells_times: bool,
 }
 
 impl Command {
     /// Reads the words, or none where they are no command.
-    pub fn of_words(words: &[String]) -> Option<Command>
+    pub(crate) fn of_words(words: &[String]) -> Option<Command>
         ensures { IfSome result (λ command. 1 ≤ command.rounds) }
     {
         match words {

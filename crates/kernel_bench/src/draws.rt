@@ -4,12 +4,12 @@ ghost use Rattle.kernel_bench.specs.Draws.{draw, next_state};
 
 /// Numbers that a seed determines, without end.
 #[derive(Drop)]
-pub struct Draws {
+pub(crate) struct Draws {
     state: u64,
 }
 
 impl Draws {
-    pub fn new(seed: u64) -> Draws
+    pub(crate) fn new(seed: u64) -> Draws
         ensures { result.state ≡ seed }
     {
         Draws { state: seed }
@@ -27,7 +27,7 @@ impl Draws {
     }
 
     /// A number below the limit.
-    pub fn below(&mut self, limit: u64) -> u64
+    pub(crate) fn below(&mut self, limit: u64) -> u64
         requires { 0 < limit }
         ensures state { self.new.state ≡ next_state self.old.state }
         ensures draw { result ≡ draw self.new.state % limit }

@@ -3,7 +3,7 @@ ghost use Rattle.std.specs.Prelude.{◌≡◌};
 
 /// How the rows of an input lie.
 #[derive(Clone, Copy)]
-pub enum Form {
+pub(crate) enum Form {
     /// Each row is true with probability 1/2.
     Dense,
     /// Each row is true with probability 1/84.
@@ -18,7 +18,7 @@ impl Form {
     ghost use Rattle.kernel_bench.specs.Names.{form_named};
 
     /// The form of that name, or none.
-    pub fn of_name(name: &str) -> Option<Form>
+    pub(crate) fn of_name(name: &str) -> Option<Form>
         ensures { result ≡ form_named name.now }
     {
         match name {

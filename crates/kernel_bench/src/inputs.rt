@@ -10,7 +10,7 @@ use std::alloc::{AllocError, Global};
 use wah_words::Wah;
 
 /// So many bitvectors of that many rows each, drawn one after the other.
-pub fn drawn(
+pub(crate) fn drawn(
     alloc: Global,
     form: Form,
     seed: u64,
@@ -36,7 +36,7 @@ fn next_input(alloc: Global, rows: &mut Rows, size: u32) -> Result<Fenced, Alloc
 }
 
 /// All inputs but the last, or all but the first, as a mix chooses.
-pub fn chosen(inputs: &[Fenced], mix: u64) -> &[Fenced]
+pub(crate) fn chosen(inputs: &[Fenced], mix: u64) -> &[Fenced]
     requires { 1 ≤ length inputs.now }
     ensures { result.now ≡ chosen mix inputs.now }
 {

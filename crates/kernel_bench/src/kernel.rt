@@ -1,6 +1,6 @@
 //! The kernels.
-ghost use Rattle.std.specs.Prelude.{◌≡◌, IfOk, length, take, drop};
-ghost use Rattle.kernel_bench.specs.Pages.{IsSelected};
+ghost use Rattle.std.specs.Prelude.{◌≡◌, IfOk, length};
+ghost use Rattle.kernel_bench.specs.Pages.{IsSelectedOf};
 ghost use Rattle.fence_window.specs.Window.{page_count};
 ghost use Rattle.kernel_bench.specs.Names.{kernel_named};
 ghost use Rattle.kernel_bench.specs.Kernel.{AreOfLength, Makes, input_count, list_at};
@@ -10,16 +10,23 @@ use fence_window::Fenced;
 use std::alloc::Global;
 use wah_words::{Memory, Wah};
 
-/// The bins that a query reads of a column.
+// The bins that a query reads of each column.
 const QUANTITIES: usize = 23;
 
 const MONTHS: usize = 12;
 
 const DISCOUNTS: usize = 3;
 
+// The numbers of the definition.
+const _: () = prove!(QUANTITIES == 23);
+
+const _: () = prove!(MONTHS == 12);
+
+const _: () = prove!(DISCOUNTS == 3);
+
 /// An operation to measure.
 #[derive(Clone, Copy)]
-pub enum Kernel {
+pub(crate) enum Kernel {
     And,
     Or,
     Xor,
@@ -33,14 +40,14 @@ pub enum Kernel {
 
 /// What a kernel made.
 #[derive(Drop)]
-pub enum Outcome {
+pub(crate) enum Outcome {
     List(Wah),
     Number(u64),
 }
 
 impl Kernel {
     /// The kernel of that name, or none.
-    pub fn of_name(name: &str) -> Option<Kernel>
+    pub(crate) fn of_name(name: &str) -> Option<Kernel>
         ensures { result ≡ kernel_named name.now }
     {
         match name {
@@ -56,7 +63,7 @@ impl Kernel {
     }
 
     /// How many bitvectors it reads.
-    pub fn input_count(self) -> usize
+    pub(crate) fn input_count(self) -> usize
         ensures { result ≡ input_count self }
     {
         match self {
@@ -67,7 +74,7 @@ impl Kernel {
     }
 
     /// What the kernel makes of bitvectors.
-    pub fn outcome(self, alloc: Global, inputs: &[Fenced]) -> Result<Outcome, Memory>
+    pub(crate) fn outcome(self, alloc: Global, inputs: &[Fenced]) -> Result<Outcome, Memory>
         requires count { length inputs.now ≡ input_count self }
         requires size { AreOfLength (length (list_at inputs.now 0)) inputs.now }
         ensures { IfOk result (Makes self inputs.now) }
@@ -85,10 +92,10 @@ impl Kernel {
     }
 }
 
-/// How many of so many rows are selected by the bins of three columns.
+// How many of so many rows are selected by the bins of three columns.
 fn selected_of(inputs: &[Fenced], rows: u32) -> u64
-    requires { length inputs.now ≡ 38 }
-    ensures { IsSelected (take 23 inputs.now) (take 12 (drop 23 inputs.now)) (drop 35 inputs.now) (page_count rows) result }
+    requires { length inputs.now ≡ input_count Kernel.Select }
+    ensures { IsSelectedOf inputs.now (page_count rows) result }
 {
     let (quantities, rest) = inputs.split_at(QUANTITIES);
     let (months, discounts) = rest.split_at(MONTHS);

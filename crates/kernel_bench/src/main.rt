@@ -1,4 +1,31 @@
-//! Runs one kernel on bitvectors that are made from a seed, and prints a checksum of its results.
+//! A program that measures one kernel of the bitvectors on lists that a seed determines. It prints a checksum of what
+//! the rounds made, which `bench/kernels` compares with that of its twin, and on demand how long they took.
+//!
+//! # Proved
+//!
+//! - `run_rounds`: the checksum is that of so many rounds, of lists of the length that the command names, and each
+//!   round takes the kernel's outcome over the lists that the checksum so far chooses.
+//! - `Kernel::outcome`: what each kernel makes, as a list or a number.
+//! - `Draws`, `Checksum`: the generator and the mix, number by number. `Kernel::of_name`, `Form::of_name`: the names.
+//! - `Times::add`: the number, the sum and the least of the times.
+//!
+//! # Only tested
+//!
+//! - How the rows of each form lie, by the checksums that the twin printed, and the texts of times.
+//! - That the clock runs while the kernel does, and little longer.
+//!
+//! # Not said
+//!
+//! - What lies between two readings of a clock, and that words of a command are read as numbers.
+//!
+//! # Example
+//!
+//! ```
+//! let command = Command::of_words(&words).ok_or("no command")?;    // or-dense 1 6000000 30 --times
+//! let (checksum, times) = run_rounds(&rt, &command)?;
+//! println!(rt; "{checksum}")?;
+//! eprintln!(rt; "{times}")?;
+//! ```
 #![tactic(auto)]
 
 mod checksum;

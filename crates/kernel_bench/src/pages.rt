@@ -5,11 +5,11 @@ ghost use Rattle.kernel_bench.specs.Pages.{xor_into, or_at, IsXor, IsSelected, I
 
 use fence_window::{Fenced, PAGE_ROWS};
 
-/// The groups of a page.
+// The groups of a page.
 type Page = [u32; 128];
 
 /// The exclusive or of all groups, read page by page.
-pub fn xor_of(list: &Fenced) -> u32
+pub(crate) fn xor_of(list: &Fenced) -> u32
     ensures { IsXor list.now (page_count (length list.now)) result }
 {
     let mut xor = 0;
@@ -32,7 +32,12 @@ fn xor_into(start: u32, page: &Page) -> u32
 }
 
 /// How many of so many rows are true in a bin of each of three columns.
-pub fn selected(quantities: &[Fenced], months: &[Fenced], discounts: &[Fenced], rows: u32) -> u64
+pub(crate) fn selected(
+    quantities: &[Fenced],
+    months: &[Fenced],
+    discounts: &[Fenced],
+    rows: u32,
+) -> u64
     ensures { IsSelected quantities.now months.now discounts.now (page_count rows) result }
 {
     let mut total = 0;
@@ -42,7 +47,7 @@ pub fn selected(quantities: &[Fenced], months: &[Fenced], discounts: &[Fenced], 
     total
 }
 
-/// How many rows of a page are true in a bin of each of three columns.
+// How many rows of a page are true in a bin of each of three columns.
 fn selected_in(quantities: &[Fenced], months: &[Fenced], discounts: &[Fenced], number: u32) -> u32
     ensures rows { IsSelectedIn quantities.now months.now discounts.now number result }
     ensures few { result ≤ 4096 }
@@ -57,7 +62,7 @@ fn selected_in(quantities: &[Fenced], months: &[Fenced], discounts: &[Fenced], n
     true_rows(&page)
 }
 
-/// Writes the or of the windows of a page.
+// Writes the or of the windows of a page.
 fn or_windows(bins: &[Fenced], number: u32, page: &mut Page)
     ensures { (i : ℕ) → i < 128 → slice_index page.new i ≡ or_at bins.now (128 * number + i) }
 {

@@ -1,7 +1,7 @@
 //! The rounds of a command.
 ghost use Rattle.std.specs.Prelude.{Bool, List, ◌≡◌, ◌+◌, IfOk, OnOk, length};
 ghost use Rattle.kernel_bench.specs.Kernel.{AreOfLength, input_count};
-ghost use Rattle.kernel_bench.specs.Rounds.{IsAfter, IsRound};
+ghost use Rattle.kernel_bench.specs.Rounds.{IsAfterRounds, IsRound};
 
 use crate::checksum::Checksum;
 use crate::command::Command;
@@ -13,13 +13,13 @@ use std::rt::Clock;
 use std::time::Instant;
 
 /// Runs the kernel as often as the command says. Only the kernel's own time is taken.
-pub fn run_rounds<R: Clock + AllocGlobal>(
+pub(crate) fn run_rounds<R: Clock + AllocGlobal>(
     rt: &R,
     command: &Command,
 ) -> io::Result<(Checksum, Times)>
     ensures { IfOk result (λ made. (lists : List (List Bool))
         × (length lists ≡ input_count command.now.kernel + 1) × AreOfLength command.now.size lists
-        × IsAfter command.now.rounds command.now.kernel lists made.0) }
+        × IsAfterRounds command.now.rounds command.now.kernel lists made.0) }
 {
     let count = command.kernel.input_count() + 1;
     let inputs = drawn(rt.alloc(), command.form, command.seed, command.size, count)?;

@@ -5,14 +5,14 @@ use crate::draws::Draws;
 use crate::form::Form;
 use std::alloc::{AllocError, Global};
 
-/// Rows of one value that follow each other.
+// Rows of one value that follow each other.
 #[derive(Drop)]
-struct Run {
+struct RowRun {
     value: bool,
     left: u64,
 }
 
-/// Rows that are drawn in one form.
+// Rows that are drawn in one form.
 #[derive(Drop)]
 struct Part {
     form: Form,
@@ -21,22 +21,22 @@ struct Part {
 
 /// Rows without end, drawn in a form from a seed.
 #[derive(Drop)]
-pub struct Rows {
+pub(crate) struct Rows {
     form: Form,
     draws: Draws,
-    run: Run,
+    run: RowRun,
     part: Part,
 }
 
 impl Rows {
-    pub fn new(form: Form, seed: u64) -> Rows
+    pub(crate) fn new(form: Form, seed: u64) -> Rows
         ensures form { result.form ≡ form }
         ensures seed { result.draws.state ≡ seed }
     {
         Rows {
             form,
             draws: Draws::new(seed),
-            run: Run {
+            run: RowRun {
                 value: false,
                 left: 0,
             },
@@ -48,7 +48,7 @@ impl Rows {
     }
 
     /// The next rows.
-    pub fn next_list(&mut self, alloc: Global, size: u32) -> Result<Vec<bool>, AllocError>
+    pub(crate) fn next_list(&mut self, alloc: Global, size: u32) -> Result<Vec<bool>, AllocError>
         ensures { IfOk result (λ rows. length rows.items ≡ size) }
     {
         let mut rows = Vec::with_capacity(alloc, size as usize)?;
@@ -70,7 +70,7 @@ impl Rows {
         }
     }
 
-    /// Runs of up to 10,000 rows, false and true in turn.
+    // Runs of up to 10,000 rows, false and true in turn.
     fn next_of_run(&mut self) -> bool {
         if self.run.left == 0 {
             self.run.left = self.draws.below(10_000) + 1;
@@ -80,7 +80,7 @@ impl Rows {
         self.run.value
     }
 
-    /// Parts of up to 50,000 rows.
+    // Parts of up to 50,000 rows.
     fn next_part(&mut self) -> Form {
         if self.part.left == 0 {
             self.part.left = self.draws.below(50_000) + 1;

@@ -1,8 +1,10 @@
-//! Checksums that the twin printed, and words of both kinds.
+//! Checksums that the twin printed, times, and words of a command.
 use crate::command::Command;
 use crate::rounds::run_rounds;
+use crate::times::Times;
 use std::alloc::{AllocError, Global};
 use std::test::Fail;
+use std::time::{Duration, Instant};
 
 fn command_of(alloc: Global, line: &str) -> Result<Option<Command>, AllocError> {
     let mut words = Vec::new(alloc);
@@ -87,5 +89,29 @@ fn reads_words(rt: HostRuntime) -> Result<(), Fail> {
     ] {
         assert!(rt; command_of(rt.alloc(), line)?.is_none(), "at {line:?}");
     }
+    Ok(())
+}
+
+#[test]
+fn times_are_printed(rt: HostRuntime) -> Result<(), Fail> {
+    let mut times = Times::new();
+    for millis in [2_500, 1_001, 1_500] {
+        times.add(Duration::from_millis(millis));
+    }
+    let text = times.to_string(rt.alloc())?;
+    assert_eq!(rt; text.as_str(), "mean=1.667000000 least=1.001000000");
+    Ok(())
+}
+
+// No clause says what lies between two readings of a clock. The kernel of this command takes nearly all of the
+// time of a run, so a clock that starts behind it tells too little.
+#[test]
+fn the_kernel_is_timed(rt: HostRuntime) -> Result<(), Fail> {
+    let command = command_of(rt.alloc(), "select-dense 7 8000 1000")?.ok_or("no command")?;
+    let began = Instant::now(&rt)?;
+    let (_, times) = run_rounds(&rt, &command)?;
+    let whole = began.elapsed(&rt)?;
+    assert!(rt; times.total <= whole);
+    assert!(rt; times.total.as_nanos() >= whole.as_nanos() / 10);
     Ok(())
 }

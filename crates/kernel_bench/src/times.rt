@@ -1,20 +1,26 @@
 //! How long the rounds took.
-ghost use Rattle.std.specs.Prelude.{◌≡◌, ◌+◌, ◌-◌, ◌^◌, min};
+ghost use Rattle.std.specs.Prelude.{◌≡◌, ◌/◌, max};
+ghost use Rattle.std.specs.Duration.{as_nanos, max_nanos};
 
 use std::fmt;
 use std::time::Duration;
 
 /// The time of all rounds, and of the fastest.
 #[derive(Drop)]
-pub struct Times {
-    rounds: u32,
-    total: Duration,
-    least: Duration,
+pub(crate) struct Times {
+    pub(crate) rounds: u32,
+    pub(crate) total: Duration,
+    pub(crate) least: Duration,
 }
 
 impl Times {
-    pub fn new() -> Times
-        ensures { result.rounds ≡ 0 }
+    ghost use Rattle.kernel_bench.specs.Times.{AddsRound};
+
+    /// No round yet.
+    pub(crate) fn new() -> Times
+        ensures rounds { result.rounds ≡ 0 }
+        ensures total { as_nanos result.total ≡ 0 }
+        ensures least { as_nanos result.least ≡ max_nanos }
     {
         Times {
             rounds: 0,
@@ -24,18 +30,27 @@ impl Times {
     }
 
     /// Counts in one round.
-    pub fn add(&mut self, time: Duration)
-        ensures { self.new.rounds ≡ min (self.old.rounds + 1) (2 ^ 32 - 1) }
+    pub(crate) fn add(&mut self, time: Duration)
+        ensures { AddsRound self.old self.new (as_nanos time) }
     {
         self.rounds = self.rounds.saturating_add(1);
         self.total = self.total.saturating_add(time);
-        self.least = self.least.min(time);
+        if time.as_nanos() < self.least.as_nanos() {
+            self.least = time;
+        }
+    }
+
+    // The time of a round on average, cut to whole nanoseconds.
+    fn mean(&self) -> Duration
+        ensures { as_nanos result ≡ as_nanos self.now.total / max self.now.rounds 1 }
+    {
+        self.total / self.rounds.max(1)
     }
 }
 
 impl fmt::Display for Times {
     fn fmt<W: fmt::Write>(&self, f: &mut fmt::Formatter<W>) -> fmt::Result {
-        let mean = self.total / self.rounds.max(1);
+        let mean = self.mean();
         let least = self.least;
         write!(
             f,

@@ -1,6 +1,6 @@
 -- The one form in which a list of truth values is spelled by words.
 use Rattle.std.specs.Prelude.{ℕ, ◌+◌, ◌-◌, ◌^◌, ◌<◌, ◌≤◌, ◌≡◌, ◌≢◌, Bool, false, List, length, take, drop, slice_index, All}
-use Rattle.wah_words.specs.Group.{rows_of, group_count}
+use Rattle.wah_words.specs.Group.{unpacked, group_count}
 use Rattle.wah_words.specs.Word.{groups, run_group, run_count}
 
 -- each number is a word of 32 bits
@@ -32,11 +32,11 @@ pub record IsCanonical (words : List ℕ) (rows : ℕ) : Type 0 where
   -- the words have as many groups as the rows take
   pub size : length (groups words) ≡ group_count rows
   -- the last group is false past the last row
-  pub padding : All (λ row. row ≡ false) (drop rows (rows_of (groups words)))
+  pub padding : All (λ row. row ≡ false) (drop rows (unpacked (groups words)))
 
 -- the rows that words spell
 abbrev pub spelled_rows : List ℕ → ℕ → List Bool
-spelled_rows words rows = take rows (rows_of (groups words))
+spelled_rows words rows = take rows (unpacked (groups words))
 
 -- the words are the spelling of the list
 pub record Spells (words : List ℕ) (list : List Bool) : Type 0 where

@@ -13,8 +13,8 @@ unfoldable pub group_rows : ℕ → List Bool
 group_rows group = low_bits 31 group
 
 -- the rows of groups, one after another
-abbrev pub rows_of : List ℕ → List Bool
-rows_of groups = flat_map group_rows groups
+abbrev pub unpacked : List ℕ → List Bool
+unpacked groups = flat_map group_rows groups
 
 -- group k of a list, as the number whose lowest bit is its first row: the 31 rows from 31 * k on, false for
 -- those past the end. So it is 0 where there are none.
@@ -34,7 +34,7 @@ abbrev pub IsUniform : ℕ → Type 0
 IsUniform group = IsTrue (group == 0 || group == 2 ^ 31 - 1)
 
 -- the groups hold the rows, with false in what is left of the last group
-pub record Holds (groups : List ℕ) (rows : List Bool) : Type 0 where
+pub record Packs (groups : List ℕ) (rows : List Bool) : Type 0 where
   pub padding : ℕ
   pub few : padding < 31
-  pub is : rows_of groups ≡ rows ++ replicate padding false
+  pub is : unpacked groups ≡ rows ++ replicate padding false

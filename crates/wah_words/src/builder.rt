@@ -5,7 +5,7 @@
 //! two fills side by side that had different values have different values then. So no fewer words could stand
 //! for the turned rows.
 ghost use Rattle.std.specs.Prelude.{ℕ, ◌≡◌, ◌<◌, ◌≤◌, ◌+◌, ◌-◌, ◌^◌, [], ◌∷◌, ◌++◌, length, map, not, replicate, IfOk, OnOk, OnErr};
-ghost use Rattle.wah_words.specs.Group.{filled, rows_of};
+ghost use Rattle.wah_words.specs.Group.{filled, unpacked};
 ghost use Rattle.wah_words.specs.Word.{groups};
 ghost use Rattle.wah_words.specs.Canonical.{AreRuns};
 
@@ -16,7 +16,7 @@ use std::marker::Model;
 
 /// Words in the making; contracts see the groups that they stand for.
 #[derive(Drop)]
-pub struct Builder {
+pub(crate) struct Builder {
     words: Vec<u32>,
 }
 
@@ -35,7 +35,7 @@ impl Model for Builder {
 
 impl Builder {
     /// No groups yet, with room for that many words.
-    pub fn with_capacity(alloc: Global, words: usize) -> Result<Builder, Memory>
+    pub(crate) fn with_capacity(alloc: Global, words: usize) -> Result<Builder, Memory>
         ensures { IfOk result (λ builder. builder ≡ []) }
     {
         Ok(Builder {
@@ -44,7 +44,7 @@ impl Builder {
     }
 
     /// The groups of words, with room for two words more.
-    pub fn from_slice(alloc: Global, words: &[u32]) -> Result<Builder, Memory>
+    pub(crate) fn from_slice(alloc: Global, words: &[u32]) -> Result<Builder, Memory>
         requires { AreRuns words.now }
         ensures { IfOk result (λ builder. builder ≡ groups words.now) }
     {
@@ -54,15 +54,15 @@ impl Builder {
     }
 
     /// Turns each row.
-    pub fn turn(&mut self)
-        ensures { rows_of self.new ≡ map not (rows_of self.old) }
+    pub(crate) fn turn(&mut self)
+        ensures { unpacked self.new ≡ map not (unpacked self.old) }
     {
         for word in self.words.iter_mut() {
             *word = word_complement(*word);
         }
     }
 
-    /// Puts a group at the end whose rows differ.
+    // Puts a group at the end whose rows differ.
     fn push_literal(&mut self, group: u32) -> Result<(), Memory>
         requires some_true { 0 < group }
         requires some_false { group < 2 ^ 31 - 1 }
@@ -75,7 +75,7 @@ impl Builder {
 
     /// Puts so many groups at the end whose rows all have the value.
     #[inline(always)]
-    pub fn push_fill(&mut self, value: bool, count: u32) -> Result<(), Memory>
+    pub(crate) fn push_fill(&mut self, value: bool, count: u32) -> Result<(), Memory>
         requires some { 1 ≤ count }
         requires room { length self.old + count < 2 ^ 30 }
         ensures ok { OnOk result (self.new ≡ self.old ++ replicate count (filled value)) }
@@ -94,7 +94,7 @@ impl Builder {
     }
 
     /// Puts so many groups of false rows at the end, or none.
-    pub fn push_false(&mut self, count: u32) -> Result<(), Memory>
+    pub(crate) fn push_false(&mut self, count: u32) -> Result<(), Memory>
         requires { length self.old + count < 2 ^ 30 }
         ensures ok { OnOk result (self.new ≡ self.old ++ replicate count 0) }
         ensures err { OnErr result (self.new ≡ self.old) }
@@ -108,7 +108,7 @@ impl Builder {
     /// Puts a run at the end.
     // Inlined, as push_fill is: a call for each run takes a third of the time of a walk over two lists.
     #[inline(always)]
-    pub fn push_run(&mut self, run: Run) -> Result<(), Memory>
+    pub(crate) fn push_run(&mut self, run: Run) -> Result<(), Memory>
         requires some { 1 ≤ run.count }
         requires room { length self.old + run.count < 2 ^ 30 }
         ensures ok { OnOk result (self.new ≡ self.old ++ replicate run.count run.group) }
@@ -122,7 +122,7 @@ impl Builder {
     }
 
     /// Puts one group at the end.
-    pub fn push_group(&mut self, group: u32) -> Result<(), Memory>
+    pub(crate) fn push_group(&mut self, group: u32) -> Result<(), Memory>
         requires within { group < 2 ^ 31 }
         requires room { length self.old + 1 < 2 ^ 30 }
         ensures ok { OnOk result (self.new ≡ self.old ++ group ∷ []) }
@@ -132,7 +132,7 @@ impl Builder {
     }
 
     /// The words.
-    pub fn into_words(self) -> Vec<u32>
+    pub(crate) fn into_words(self) -> Vec<u32>
         ensures runs { AreRuns result.items }
         ensures groups { groups result.items ≡ self }
     {

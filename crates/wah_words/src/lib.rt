@@ -1,4 +1,39 @@
-//! Bitvectors in the word-aligned hybrid code: 31 rows to a 32-bit word, and runs of equal rows counted.
+//! Bitvectors in the word-aligned hybrid code: a list of truth values takes 32-bit words, of which each holds 31 rows
+//! as they are or counts equal groups of them. Each list has one spelling, and the operations go over the words of both
+//! lists run by run, so that no list is ever expanded to its rows. Callers see a [`Wah`] as the list that it spells.
+//!
+//! # Proved
+//!
+//! - `Wah::from_rows`, `from_places`: the list of these truth values, or the one that is true at these places alone.
+//! - `Wah::from_words`: a bitvector exactly where the words are canonical for that many rows (`canonical`), and then
+//!   the list that they spell (`list`), of that length (`rows`).
+//! - `Wah::and`, `or`, `xor`, `not`: the operation on each row. `extended`: the list, and false after it.
+//! - `Wah::count`, `len`: how many rows are true, and how many there are.
+//! - `Wah::words`: the words spell the list (`spelling`), and group k of the words is that of the list (`each_group`).
+//! - `one_spelling`: words that spell one list are the same words, and words spell one list of a length alone.
+//! - `Run::of_word`, `is_literal`: what one word stands for.
+//! - Lists that a call is lent stay as they are, and every call returns.
+//!
+//! # Only tested
+//!
+//! - That each call that may answer `Memory` succeeds, on lists of up to 130,000 rows.
+//! - The words of the form's own examples, in both directions.
+//!
+//! # Not said
+//!
+//! - When there is no memory: `Memory` is free. A call that answers it has let go of what it took.
+//! - Time, and how few words a list takes. An operation takes a step for each run of either list.
+//! - Room: a result's vector may be longer than its words.
+//!
+//! # Example
+//!
+//! ```
+//! let a = Wah::from_rows(alloc, &[true, false, true])?;
+//! let b = Wah::from_places(alloc, &[1, 2], 3)?;
+//! let both = a.and(alloc, &b)?;
+//! let either = a.or(alloc, &b)?;
+//! assert!(rt; (both.count(), either.count()) == (1, 3));
+//! ```
 #![tactic(auto)]
 
 mod builder;
@@ -10,6 +45,6 @@ mod run;
 mod wah;
 mod walk;
 
-pub use run::{Run, is_literal};
+pub use run::{GROUP_ROWS, Run, is_literal};
 pub use std::alloc::AllocError as Memory;
 pub use wah::{Wah, one_spelling};

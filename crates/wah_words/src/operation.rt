@@ -4,7 +4,7 @@ ghost use Rattle.wah_words.specs.Group.{IsUniform, group_rows};
 ghost use Rattle.wah_words.specs.Rows.{differs, pointwise};
 
 /// An operation on two truth values that makes false of two that are false.
-pub trait Operation {
+pub(crate) trait Operation {
     ghost of_rows: { Bool → Bool → Bool };
 
     /// The operation on each two rows of two groups.
@@ -16,7 +16,7 @@ pub trait Operation {
         ensures rows { group_rows result ≡ pointwise of_rows (group_rows a) (group_rows b) };
 }
 
-pub struct And;
+pub(crate) struct And;
 
 impl Operation for And {
     ghost of_rows = { ◌&&◌ };
@@ -26,7 +26,7 @@ impl Operation for And {
     }
 }
 
-pub struct Or;
+pub(crate) struct Or;
 
 impl Operation for Or {
     ghost of_rows = { ◌||◌ };
@@ -36,7 +36,7 @@ impl Operation for Or {
     }
 }
 
-pub struct Xor;
+pub(crate) struct Xor;
 
 impl Operation for Xor {
     ghost of_rows = { differs };

@@ -5,18 +5,36 @@ ghost use Rattle.wah_words.specs.Rows.{cleared};
 ghost use Rattle.wah_words.specs.Word.{run_group, run_count};
 ghost use Rattle.wah_words.specs.Canonical.{IsCanonical, IsCountedFill, IsMixedLiteral};
 
-/// The group whose 31 rows are all true.
-pub const ALL_TRUE: u32 = 0x7fff_ffff;
+/// The rows of a group.
+pub const GROUP_ROWS: u32 = 31;
+/// The group whose rows are all true.
+pub(crate) const ALL_TRUE: u32 = 0x7fff_ffff;
 /// The lowest fill; up to the next constant its rows are false.
-pub const FALSE_FILL: u32 = 0x8000_0000;
+pub(crate) const FALSE_FILL: u32 = 0x8000_0000;
 /// The lowest fill of true rows.
-pub const TRUE_FILL: u32 = 0xc000_0000;
-/// The bit of a fill that is the value of its rows.
+pub(crate) const TRUE_FILL: u32 = 0xc000_0000;
+// The bit of a fill that is the value of its rows.
 const VALUE_BIT: u32 = 0x4000_0000;
+// The bits of a fill that count its groups.
+const COUNT_BITS: u32 = 0x3fff_ffff;
+
+// The numbers of the form, which the definitions say in powers of two.
+const _: () = prove!(GROUP_ROWS == 31);
+
+const _: () = prove!(ALL_TRUE == 2_147_483_647);
+
+const _: () = prove!(FALSE_FILL == 2_147_483_648);
+
+const _: () = prove!(TRUE_FILL == 3_221_225_472);
+
+const _: () = prove!(VALUE_BIT == 1_073_741_824);
+
+const _: () = prove!(COUNT_BITS == 1_073_741_823);
 
 /// So many groups of one value, side by side. More than one are all false or all true.
 #[derive(Clone, Copy)]
 pub struct Run {
+    /// The rows of each group, the first in the lowest bit.
     pub group: u32,
     pub count: u32,
     ghost within: { group < 2 ^ 31 },
@@ -39,12 +57,12 @@ impl Run {
         let group = if word < TRUE_FILL { 0 } else { ALL_TRUE };
         Run {
             group,
-            count: word & 0x3fff_ffff,
+            count: word & COUNT_BITS,
         }
     }
 
     /// The run whose rows are the others.
-    pub fn complement(self) -> Run
+    pub(crate) fn complement(self) -> Run
         ensures count { result.count ≡ self.count }
         ensures rows { group_rows result.group ≡ map not (group_rows self.group) }
     {
@@ -63,7 +81,7 @@ pub fn is_literal(word: u32) -> bool
 }
 
 /// The fill that counts so many groups of rows with the value.
-pub fn fill_word(value: bool, count: u32) -> u32
+pub(crate) fn fill_word(value: bool, count: u32) -> u32
     requires { count < 2 ^ 30 }
     ensures fill { 2 ^ 31 ≤ result }
     ensures group { run_group result ≡ filled value }
@@ -77,7 +95,7 @@ pub fn fill_word(value: bool, count: u32) -> u32
 }
 
 /// The word of the same kind whose rows are the others.
-pub fn word_complement(word: u32) -> u32
+pub(crate) fn word_complement(word: u32) -> u32
     ensures fill { (2 ^ 31 ≤ result) ↔ (2 ^ 31 ≤ word) }
     ensures count { run_count result ≡ run_count word }
     ensures group { run_group result + run_group word ≡ 2 ^ 31 - 1 }
@@ -90,15 +108,15 @@ pub fn word_complement(word: u32) -> u32
 }
 
 /// How many groups hold so many rows.
-pub fn group_count(rows: u32) -> u32
+pub(crate) fn group_count(rows: u32) -> u32
     ensures { result ≡ groups_for rows }
 {
-    rows.div_ceil(31)
+    rows.div_ceil(GROUP_ROWS)
 }
 
 /// The group that begins with these rows, at most 31, and ends in false.
-pub fn group_of(rows: &[bool]) -> u32
-    requires { length rows.now ≤ 31 }
+pub(crate) fn group_of(rows: &[bool]) -> u32
+    requires { length rows.now ≤ GROUP_ROWS }
     ensures within { result < 2 ^ 31 }
     ensures rows { group_rows result ≡ rows.now ++ replicate (31 - length rows.now) false }
 {
@@ -111,7 +129,7 @@ pub fn group_of(rows: &[bool]) -> u32
     group
 }
 
-/// Whether a word may stand among canonical words.
+// Whether a word may stand among canonical words.
 fn is_proper(word: u32) -> bool
     ensures { IsTrue result ↔ (IsMixedLiteral word × IsCountedFill word) }
 {
@@ -123,14 +141,14 @@ fn is_proper(word: u32) -> bool
 }
 
 /// Whether two words side by side are fills of one value, which one fill could stand for.
-pub fn joins(previous: u32, word: u32) -> bool
+pub(crate) fn joins(previous: u32, word: u32) -> bool
     ensures { IsTrue result ↔ ((2 ^ 31 ≤ previous) × (2 ^ 31 ≤ word) × (run_group previous ≡ run_group word)) }
 {
     !is_literal(previous) && previous >> 30 == word >> 30
 }
 
 /// Whether the words are in the canonical form for so many rows.
-pub fn is_canonical(words: &[u32], rows: u32) -> bool
+pub(crate) fn is_canonical(words: &[u32], rows: u32) -> bool
     ensures { IsTrue result ↔ IsCanonical words.now rows }
 {
     let mut left = group_count(rows);
@@ -147,13 +165,13 @@ pub fn is_canonical(words: &[u32], rows: u32) -> bool
     if left != 0 {
         return false;
     }
-    let last_rows = rows % 31;
+    let last_rows = rows % GROUP_ROWS;
     last_rows == 0 || Run::of_word(previous).group >> last_rows == 0
 }
 
 /// The first rows of a group, and false after them.
-pub fn first_rows(group: u32, rows: u32) -> u32
-    requires { rows ≤ 31 }
+pub(crate) fn first_rows(group: u32, rows: u32) -> u32
+    requires { rows ≤ GROUP_ROWS }
     ensures within { result < 2 ^ 31 }
     ensures rows { group_rows result ≡ cleared rows (group_rows group) }
 {

@@ -1,7 +1,7 @@
 //! Bitvectors.
 ghost use Rattle.std.specs.Prelude.{ℕ, Bool, List, ◌≡◌, ◌<◌, ◌≤◌, ◌^◌, ◌++◌, ◌&&◌, ◌||◌, false, not, length, map, take, drop, replicate, slice_index, slice_index_or, ◌-◌, All, Contains, ◌↔◌, IsTrue, IfOk, IfSome, IsSome};
 ghost use Rattle.std.specs.List.Sorted.{IsStrictlyIncreasing};
-ghost use Rattle.wah_words.specs.Group.{Holds, group_at, group_count as groups_for, rows_of};
+ghost use Rattle.wah_words.specs.Group.{Packs, group_at, group_count as groups_for, unpacked};
 ghost use Rattle.wah_words.specs.Word.{groups as groups_of};
 ghost use Rattle.wah_words.specs.Canonical.{AreWords, IsCanonical, Spells};
 ghost use Rattle.wah_words.specs.Rows.{differs, pointwise, true_count};
@@ -11,10 +11,13 @@ use crate::complement::complement;
 use crate::count::true_rows;
 use crate::operation::{And, Operation, Or, Xor};
 use crate::places::groups_of_places;
-use crate::run::{group_count, group_of, is_canonical};
+use crate::run::{GROUP_ROWS, group_count, group_of, is_canonical};
 use crate::{Memory, walk};
 use std::alloc::Global;
 use std::marker::Model;
+
+// The rows of a group, as a length.
+const GROUP_LENGTH: usize = GROUP_ROWS as usize;
 
 /// A list of truth values as run-length words; contracts see the list.
 #[derive(Drop)]
@@ -36,7 +39,7 @@ impl Model for Wah {
 }
 
 impl Wah {
-    /// The list of these truth values, at most 4,294,967,295.
+    /// The list of these truth values, at most 4,294,967,295 of them. It takes one pass.
     pub fn from_rows(alloc: Global, rows: &[bool]) -> Result<Wah, Memory>
         requires { length rows.now < 2 ^ 32 }
         ensures { IfOk result (λ wah. wah ≡ rows.now) }
@@ -70,17 +73,17 @@ impl Wah {
         Some(Wah { words, rows })
     }
 
-    /// The groups of these truth values.
     fn groups_of(alloc: Global, rows: &[bool]) -> Result<Builder, Memory>
         requires { length rows.now < 2 ^ 32 }
-        ensures { IfOk result (λ groups. Holds groups rows.now) }
+        ensures { IfOk result (λ groups. Packs groups rows.now) }
     {
-        let mut out = Builder::with_capacity(alloc, rows.len().div_ceil(31))?;
-        let whole = rows.len() / 31;
+        let mut out = Builder::with_capacity(alloc, rows.len().div_ceil(GROUP_LENGTH))?;
+        let whole = rows.len() / GROUP_LENGTH;
         for i in 0..whole {
-            out.push_group(group_of(&rows[31 * i..31 * i + 31]))?;
+            let start = GROUP_LENGTH * i;
+            out.push_group(group_of(&rows[start..start + GROUP_LENGTH]))?;
         }
-        let rest = &rows[31 * whole..];
+        let rest = &rows[GROUP_LENGTH * whole..];
         if rest.is_empty() {
             return Ok(out);
         }
@@ -112,7 +115,6 @@ impl Wah {
         self.combined::<Xor>(alloc, other)
     }
 
-    /// What the operation makes of each two rows at one place.
     fn combined<O: Operation>(&self, alloc: Global, other: &Wah) -> Result<Wah, Memory>
         requires lengths { length self.now ≡ length other.now }
         requires padding { O.of_rows false false ≡ false }
@@ -141,11 +143,11 @@ impl Wah {
         Ok(Wah::of_groups(groups, rows))
     }
 
-    /// The first rows of groups that have no true row after them.
+    // The first rows of groups that have no true row after them.
     fn of_groups(groups: Builder, rows: u32) -> Wah
         requires size { length groups ≡ groups_for rows }
-        requires padding { All (λ row. row ≡ false) (drop rows (rows_of groups)) }
-        ensures { result ≡ take rows (rows_of groups) }
+        requires padding { All (λ row. row ≡ false) (drop rows (unpacked groups)) }
+        ensures { result ≡ take rows (unpacked groups) }
     {
         Wah {
             words: groups.into_words(),

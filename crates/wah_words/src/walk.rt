@@ -1,6 +1,6 @@
 //! Two word lists walked together, run by run.
 ghost use Rattle.std.specs.Prelude.{◌≡◌, ◌<◌, ◌≤◌, ◌^◌, [], All, IfOk, drop, length};
-ghost use Rattle.wah_words.specs.Group.{rows_of};
+ghost use Rattle.wah_words.specs.Group.{unpacked};
 ghost use Rattle.wah_words.specs.Rows.{pointwise};
 ghost use Rattle.wah_words.specs.Word.{groups as groups_of};
 ghost use Rattle.wah_words.specs.Canonical.{IsCountedFill};
@@ -11,7 +11,7 @@ use crate::operation::Operation;
 use crate::run::Run;
 use std::alloc::Global;
 
-/// The groups that are left of words: the rest of a run, and the words after it.
+// The groups that are left of words: the rest of a run, and the words after it.
 #[derive(Drop)]
 struct Cursor<'a> {
     run: Run,
@@ -32,7 +32,7 @@ impl<'a> Cursor<'a> {
         }
     }
 
-    /// Goes on to the next word where the run has ended.
+    // Goes on to the next word where the run has ended.
     fn refill(&mut self)
         ensures same { groups_left self.new ≡ groups_left self.old }
         ensures end { self.new.run.count ≡ 0 → groups_left self.new ≡ [] }
@@ -46,7 +46,7 @@ impl<'a> Cursor<'a> {
         }
     }
 
-    /// Leaves out so many groups of the run.
+    // Leaves out so many groups of the run.
     fn skip(&mut self, count: u32)
         requires { count ≤ self.old.run.count }
         ensures { groups_left self.new ≡ drop count (groups_left self.old) }
@@ -57,7 +57,7 @@ impl<'a> Cursor<'a> {
 
 /// What the operation makes of the groups of two word lists, as many on each side. A step takes a run, so
 /// a fill beside a fill costs the same whatever they count.
-pub fn combined<O: Operation>(
+pub(crate) fn combined<O: Operation>(
     alloc: Global,
     a: &[u32],
     b: &[u32],
@@ -67,8 +67,8 @@ pub fn combined<O: Operation>(
     requires right { All IsCountedFill b.now }
     requires same { length (groups_of a.now) ≡ length (groups_of b.now) }
     requires room { length (groups_of a.now) < 2 ^ 30 }
-    ensures { IfOk result (λ out. rows_of out
-        ≡ pointwise O.of_rows (rows_of (groups_of a.now)) (rows_of (groups_of b.now))) }
+    ensures { IfOk result (λ out. unpacked out
+        ≡ pointwise O.of_rows (unpacked (groups_of a.now)) (unpacked (groups_of b.now))) }
 {
     // Each run of the result ends a word on one side at least.
     let words = a.len() + b.len();

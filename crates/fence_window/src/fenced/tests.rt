@@ -1,14 +1,15 @@
+//! Windows and rows, of given words and of drawn lists.
 use super::*;
 use std::process::Abort;
 use std::test::Fail;
 
-/// The bitvector of these words, fenced.
+// The bitvector of these words, fenced.
 fn fenced_of(alloc: Global, words: &[u32], rows: u32) -> Result<Fenced, Fail> {
     let wah = Wah::from_words(words.to_vec(alloc)?, rows).ok_or("not canonical")?;
     Ok(Fenced::make(alloc, wah)?)
 }
 
-/// The groups of a page, given as runs of one group, are what `window` writes.
+// The groups of a page, given as runs of one group, are what `window` writes.
 fn has_window(rt: &impl Abort, fenced: &Fenced, page: u32, runs: &[(u32, usize)]) {
     let mut out = [0x5555_5555; 128];
     fenced.window(page, &mut out);
@@ -117,7 +118,7 @@ fn the_longest_list(rt: HostRuntime) -> Result<(), Fail> {
     Ok(())
 }
 
-/// Rows from a fixed generator, of which one in 64 begins a run of the other value.
+// Rows from a fixed generator, of which one in 64 begins a run of the other value.
 fn drawn_rows(alloc: Global, seed: u64, count: usize) -> Result<Vec<bool>, Memory> {
     let mut rows = Vec::new(alloc);
     let mut state = seed;
@@ -132,11 +133,11 @@ fn drawn_rows(alloc: Global, seed: u64, count: usize) -> Result<Vec<bool>, Memor
     Ok(rows)
 }
 
-/// The window of a page has the rows from the page's first on, and then false.
+// The window of a page has the rows from the page's first on, and then false.
 fn has_rows(rt: &impl Abort, fenced: &Fenced, page: u32, rows: &[bool]) {
     let mut out = [0x5555_5555; 128];
     fenced.window(page, &mut out);
-    let mut rest = rows.iter().skip(page as usize * 3_968);
+    let mut rest = rows.iter().skip(page as usize * PAGE_ROWS as usize);
     for group in out {
         for bit in 0..31u32 {
             let row = rest.next().copied().unwrap_or(false);
@@ -147,11 +148,11 @@ fn has_rows(rt: &impl Abort, fenced: &Fenced, page: u32, rows: &[bool]) {
 
 #[test]
 fn windows_are_those_of_plain_lists(rt: HostRuntime) -> Result<(), Fail> {
-    for count in (0..131).chain(3_960..3_975) {
+    for count in (0..131).chain(3_960..3_975).chain(130_000..130_001) {
         let rows = drawn_rows(rt.alloc(), count as u64, count)?;
-        assert!(rt; rows.len() < 10_000);
+        assert!(rt; rows.len() < 1_000_000);
         let fenced = Fenced::make(rt.alloc(), Wah::from_rows(rt.alloc(), &rows)?)?;
-        for page in 0..3 {
+        for page in 0..fenced.wah().len() / PAGE_ROWS + 2 {
             has_rows(&rt, &fenced, page, &rows);
         }
     }

@@ -26,14 +26,24 @@ loop-page-preserved c =
     let more : 128 * page + 128 ≡ 128 * (page + 1) = omega arith in
     record {
       fits = c.loop-page.invariant.fits;
-      size = omega (arith, ap length c.in_ok-push.ensures.items, length_push fences c.loop-page.place, c.loop-page.invariant.size);
-      so_far = subst P (sym c.in_ok-push.ensures.items) (AreFences-push words page fences c.loop-page.place c.loop-page.invariant.size c.loop-page.invariant.so_far c.loop-page.invariant.next);
-      next = subst Q more (after_more words (128 * page) 128 c.loop-page.place c.advanced-place.result c.loop-page.invariant.next c.advanced-place.ensures.rest c.advanced-place.ensures.inside c.advanced-place.ensures.few);
+      size = omega (
+        arith,
+        ap length c.in_ok-push.ensures.items,
+        length_push fences c.loop-page.place,
+        c.loop-page.invariant.size,
+      );
+      so_far = subst P (sym c.in_ok-push.ensures.items)
+          (AreFences-push words page fences c.loop-page.place c.loop-page.invariant.size c.loop-page.invariant.so_far
+          c.loop-page.invariant.next);
+      next = subst Q more
+          (after_more words (128 * page) 128 c.loop-page.place c.advanced-place.result c.loop-page.invariant.next
+          c.advanced-place.ensures.rest c.advanced-place.ensures.inside c.advanced-place.ensures.few);
     }
 
 pub returns : goal.returns
 returns c =
     let words = c.words-words.result.now in
     HasFences-of words c.args.wah.now c.loop-page.fences.items
-    (λ others within spells. c.one_spelling.ensures.words words others c.args.wah.now c.loop-page.invariant.fits within c.words-words.ensures.spelling spells)
+    (λ others within spells. c.one_spelling.ensures.words words others c.args.wah.now c.loop-page.invariant.fits within
+    c.words-words.ensures.spelling spells)
     (omega (arith, c.loop-page.invariant.size, c.len.ensures, c.div_ceil-pages.ensures)) c.loop-page.invariant.so_far

@@ -9,8 +9,10 @@ use Rattle.fence_window.proofs.place.write_groups.Goals.{After-write_word-at}
 -- a run is written
 writing : (c : After-write_word-at) →
     let w = c.loop-word.word in
-    IsWriting (groups_from c.args.words.now c.args.place) c.loop-word.out c.write_word-at.new.out c.loop-word.at c.write_word-at.result
-    (run_count (get_or c.args.words.now w 0) - c.loop-word.skipped) (run_group (get_or c.args.words.now w 0)) (groups (drop (w + 1) c.args.words.now))
+    IsWriting (groups_from c.args.words.now c.args.place) c.loop-word.out c.write_word-at.new.out c.loop-word.at
+    c.write_word-at.result
+    (run_count (get_or c.args.words.now w 0) - c.loop-word.skipped) (run_group (get_or c.args.words.now w 0))
+    (groups (drop (w + 1) c.args.words.now))
 writing c =
     let words = c.args.words.now in
     let w = c.loop-word.word in
@@ -26,13 +28,15 @@ writing c =
       left =
           sym c.loop-word.invariant.rest
           ∙ ap (drop skipped) (groups-drop words w c.loop-word-test.true)
-          ∙ drop_part skipped (run_count word) (run_group word) (groups (drop (w + 1) words)) c.loop-word.invariant.inside;
+          ∙ drop_part skipped (run_count word) (run_group word)
+          (groups (drop (w + 1) words)) c.loop-word.invariant.inside;
       new_is = c.write_word-at.ensures.written;
     }
 
 pub returns-then-at-eq128 : goal.returns-then-at-eq128
 returns-then-at-eq128 c = λ i within.
-    get_or-taken _ _ c.write_word-at.result i (written_more _ _ _ _ _ _ _ _ (writing (goal.at.returns-then-at-eq128 c).After-write_word-at)) (omega arith)
+    get_or-taken _ _ c.write_word-at.result i
+    (written_more _ _ _ _ _ _ _ _ (writing (goal.at.returns-then-at-eq128 c).After-write_word-at)) (omega arith)
 
 pub loop-word-preserved : goal.loop-word-preserved
 loop-word-preserved c =
@@ -47,6 +51,9 @@ loop-word-preserved c =
 
 pub returns : goal.returns
 returns c =
-    get_or-ended (groups_from c.args.words.now c.args.place) c.loop-word.out c.fill.new.self c.loop-word.at 128 (omega (arith, c.loop-word.invariant.room)) c.loop-word.invariant.written
-    (sym c.loop-word.invariant.rest ∙ groups-drop_all c.args.words.now c.loop-word.word c.loop-word.skipped c.loop-word-test.false)
-    (c.fill.ensures.after (λ _ same. same) ∙ ap (λ n. replicate n 0) (mid_len c.loop-word.at 128 c.loop-word.out (omega arith)))
+    get_or-ended (groups_from c.args.words.now c.args.place) c.loop-word.out c.fill.new.self c.loop-word.at 128
+    (omega (arith, c.loop-word.invariant.room)) c.loop-word.invariant.written
+    (sym c.loop-word.invariant.rest
+    ∙ groups-drop_all c.args.words.now c.loop-word.word c.loop-word.skipped c.loop-word-test.false)
+    (c.fill.ensures.after (λ _ same. same)
+    ∙ ap (λ n. replicate n 0) (mid_len c.loop-word.at 128 c.loop-word.out (omega arith)))

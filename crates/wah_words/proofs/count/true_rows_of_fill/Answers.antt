@@ -8,4 +8,5 @@ overflow_mul-result c =
     omega (arith, rw rows at c.requires, c.of_word.ensures.count)
 
 pub returns-clause-fill : goal.returns-clause-fill
-returns-clause-fill c = λ _. rw (ones-true_fill c.args.word (omega arith)) (ap (λ count. 31 * count) c.of_word.ensures.count)
+returns-clause-fill c =
+    λ _. rw (ones-true_fill c.args.word (omega arith)) (ap (λ count. 31 * count) c.of_word.ensures.count)

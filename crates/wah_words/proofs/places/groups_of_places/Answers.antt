@@ -12,15 +12,20 @@ loop-place-preserved c =
     let i = c.loop-place.place-index in
     let bit = get_or places i 0 % 31 in
     let marked = c.loop-place.invariant in
-    let before = index-le places i c.loop-place.out c.loop-place.group c.loop-place.index c.requires.rising marked (omega arith) in
-    let one : 1 * 2 ^ bit % 2 ^ 32 < 2 ^ 31 = omega (arith, one_shl bit 32 (omega arith), pow_below bit 31 (omega arith)) in
-    marked_more places i c.loop-place.out c.advance.new.out c.loop-place.group c.in_ok-group.group c.loop-place.index marked (omega arith) c.in_ok-group.ensures.within
+    let before =
+    index-le places i c.loop-place.out c.loop-place.group c.loop-place.index c.requires.rising marked
+    (omega arith) in
+    let one : 1 * 2 ^ bit % 2 ^ 32 < 2 ^ 31 =
+    omega (arith, one_shl bit 32 (omega arith), pow_below bit 31 (omega arith)) in
+    marked_more places i c.loop-place.out c.advance.new.out c.loop-place.group c.in_ok-group.group c.loop-place.index
+    marked (omega arith) c.in_ok-group.ensures.within
     (omega (arith, c.in_ok-group.ensures.size, marked.size, before)) c.in_ok-group.ensures.rows
     (or_lt 31 c.in_ok-group.group (1 * 2 ^ bit % 2 ^ 32) c.in_ok-group.ensures.within one)
 
 pub returns-clause-places : goal.returns-clause-places
 returns-clause-places c =
-    let done : IsDone c.args.places.now c.args.rows c.loop-place.place-index c.loop-place.out c.loop-place.group c.loop-place.index c.advance-2.new.out c.in_ok-advance.field-0 = record {
+    let done : IsDone c.args.places.now c.args.rows c.loop-place.place-index c.loop-place.out c.loop-place.group
+    c.loop-place.index c.advance-2.new.out c.in_ok-advance.field-0 = record {
       marked = c.loop-place.invariant;
       all = omega arith;
       below = c.requires.below;

@@ -13,10 +13,12 @@ loop-place-preserved c =
     let below = mask_front-lt rows (i + 1) (omega arith) in
     elim c.if-row.branch [
       | then-row w ↦
-          let is = w.group-is ∙ mask-more_true rows i c.loop-place.group (omega arith) (omega arith) w.if-row.true c.loop-place.invariant.0 in
+          let is = w.group-is ∙ mask-more_true rows i c.loop-place.group (omega arith)
+          (omega arith) w.if-row.true c.loop-place.invariant.0 in
           (is, omega arith)
       | else-row w ↦
-          let is = w.group-is ∙ mask-more_false rows i c.loop-place.group (omega arith) w.if-row.false c.loop-place.invariant.0 in
+          let is = w.group-is ∙ mask-more_false rows i c.loop-place.group
+          (omega arith) w.if-row.false c.loop-place.invariant.0 in
           (is, omega arith)
     ]
 

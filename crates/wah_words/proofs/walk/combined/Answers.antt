@@ -1,6 +1,6 @@
 use Rattle.std.proofs.Common.{◌∙◌, ◌++◌, ap, refl, arith, drop, length, replicate}
 use Rattle.std.proofs.lemmas.List.{length-append, length-replicate, length-drop}
-use Rattle.wah_words.specs.Group.{rows_of}
+use Rattle.wah_words.specs.Group.{unpacked}
 use Rattle.wah_words.specs.Rows.{pointwise}
 use Rattle.wah_words.specs.Word.{groups}
 use Rattle.wah_words.specs.Cursor.{groups_left}
@@ -30,9 +30,30 @@ loop-left-preserved g c =
     let right_same = c.refill-in-loop-left.ensures.same in (
       rw (pushed, left_rest, right_rest)
           (pointwise-step bit c.loop-left.out a b count r step
-          ∙ ap (λ gs. rows_of c.loop-left.out ++ pointwise bit (rows_of gs) (rows_of b)) left_same
-          ∙ ap (λ gs. rows_of c.loop-left.out ++ pointwise bit (rows_of (groups_left c.loop-left.left)) (rows_of gs)) right_same
+          ∙ ap (λ gs. unpacked c.loop-left.out ++ pointwise bit (unpacked gs) (unpacked b)) left_same
+          ∙ ap (λ gs. unpacked c.loop-left.out ++ pointwise bit (unpacked (groups_left c.loop-left.left)) (unpacked gs))
+          right_same
           ∙ c.loop-left.invariant.0),
-      omega (arith, ap length left_rest, ap length right_rest, length-drop count a, length-drop count b, ap length left_same, ap length right_same, c.loop-left.invariant.1),
-      omega (arith, ap length pushed, length-append c.loop-left.out (replicate count r), length-replicate count r, ap length left_rest, ap length step.left, length-append (replicate count left.run.group) (drop count a), length-replicate count left.run.group, ap length left_same, c.loop-left.invariant.2),
+      omega (
+        arith,
+        ap length left_rest,
+        ap length right_rest,
+        length-drop count a,
+        length-drop count b,
+        ap length left_same,
+        ap length right_same,
+        c.loop-left.invariant.1,
+      ),
+      omega (
+        arith,
+        ap length pushed,
+        length-append c.loop-left.out (replicate count r),
+        length-replicate count r,
+        ap length left_rest,
+        ap length step.left,
+        length-append (replicate count left.run.group) (drop count a),
+        length-replicate count left.run.group,
+        ap length left_same,
+        c.loop-left.invariant.2,
+      ),
     )

@@ -13,8 +13,10 @@ fence : (c : In-Some) → IsAfter c.words-words.result.now (128 * c.args.page) c
 fence c =
     let lookup = c.in-Some.ensures.lookup in
     let items = c.deref.ensures.value in
-    fence_at c.words-words.result.now c.self.inside.wah c.self.inside.fences.items c.args.page c.in-Some.fence.now c.self.invariant c.type_inv.words c.words-words.ensures.spelling
-    (omega (arith, lookup.3.0, ap length items)) (lookup.1 ∙ ap (λ fences. get_or fences c.args.page c.in-Some.fence.now) items)
+    fence_at c.words-words.result.now c.self.inside.wah c.self.inside.fences.items c.args.page c.in-Some.fence.now
+    c.self.invariant c.type_inv.words c.words-words.ensures.spelling
+    (omega (arith, lookup.3.0, ap length items))
+    (lookup.1 ∙ ap (λ fences. get_or fences c.args.page c.in-Some.fence.now) items)
 
 pub write_groups-requires : goal.write_groups-requires
 write_groups-requires c = (fence (goal.at.write_groups-requires c).In-Some).inside
@@ -33,4 +35,10 @@ returns-in-None c = λ i within.
     ap (λ list. get_or list i 0) (c.fill.ensures.after (λ _ same. same))
     ∙ get_or-replicate (length c.args.out.now) i 0 0 (omega (arith, c.fill.ensures.len, c.fill.array_long))
     ∙ sym (group_at-past c.args.self.now (128 * c.args.page + i)
-    (omega (arith, c.in-None.ensures.lookup.3, ap length c.deref.ensures.value, c.self.invariant.size, ap length c.self.view_is)))
+    (omega (
+      arith,
+      c.in-None.ensures.lookup.3,
+      ap length c.deref.ensures.value,
+      c.self.invariant.size,
+      ap length c.self.view_is,
+    )))
