@@ -14,8 +14,8 @@ use Rattle.cubit_io.specs.MemoryFile.{MemoryFileValue}
 use Rattle.cubit_io.specs.MemoryFiles.{bytes_under, bytes_at, index_under}
 
 -- the files of a `MemoryFiles`
-abbrev Files : Type 0
-Files = List MemoryFileValue
+abbrev FileList : Type 0
+FileList = List MemoryFileValue
 
 -- whether a file has this name
 abbrev is_named : List ℕ → MemoryFileValue → Bool
@@ -26,12 +26,12 @@ abbrev bytes_of : Option MemoryFileValue → Option (List ℕ)
 bytes_of file = option_map (λ f. f.bytes) file
 
 -- what is read at an index has the bytes there
-pub bytes_at_is : (files : Files) (i : ℕ) (file : MemoryFileValue) → i < length files → file ≡ get_or files i file
+pub bytes_at_is : (files : FileList) (i : ℕ) (file : MemoryFileValue) → i < length files → file ≡ get_or files i file
     → bytes_at files i ≡ file.bytes
 bytes_at_is files i file within is = rw (slice_get_read files (length files) i file refl within is) refl
 
 -- the bytes under a name are those of the first file that has it
-bytes_under_find : (files : Files) (name : List ℕ) → bytes_under files name ≡ bytes_of (find (is_named name) files)
+bytes_under_find : (files : FileList) (name : List ℕ) → bytes_under files name ≡ bytes_of (find (is_named name) files)
 bytes_under_find files name = elim (cases_lt at (length files)) [
   | inl within ↦
       let there = slice_get-get_or files at (record { name = []; bytes = [] }) within in
@@ -47,7 +47,7 @@ bytes_under_find files name = elim (cases_lt at (length files)) [
     at = position_or_len (is_named name) files
 
 -- a write over an element that does not pass, of one that does not pass either
-find-set-other : (p : MemoryFileValue → Bool) (files : Files) (i : ℕ) (old new : MemoryFileValue)
+find-set-other : (p : MemoryFileValue → Bool) (files : FileList) (i : ℕ) (old new : MemoryFileValue)
     → old ≡ get_or files i old → p old ≡ false → p new ≡ false → find p (set files i new) ≡ find p files
 find-set-other p [] i old new reads not_old not_new = refl
 find-set-other p (x ∷ xs) zero old new reads not_old not_new =
@@ -67,13 +67,13 @@ has_other_name file name other named differs =
     false_from_ne_true _ (λ same. differs (sym ((bytes_eq-Decides file.name other).0 same) ∙ named))
 
 -- the first file of a name has it
-old_is_named : (files : Files) (name : List ℕ) (i : ℕ) (old : MemoryFileValue) → index_under files name ≡ Some i
+old_is_named : (files : FileList) (name : List ℕ) (i : ℕ) (old : MemoryFileValue) → index_under files name ≡ Some i
     → old ≡ get_or files i old → is_named name old ≡ true
 old_is_named files name i old first reads =
     ap (is_named name) reads ∙ (position-Some (is_named name) files i old first).1
 
 -- the first file of a name is replaced by one of the same name: what is found under it
-pub bytes_under-set_same : (files : Files) (name : List ℕ) (i : ℕ) (old file : MemoryFileValue)
+pub bytes_under-set_same : (files : FileList) (name : List ℕ) (i : ℕ) (old file : MemoryFileValue)
     → index_under files name ≡ Some i → old ≡ get_or files i old → file.name ≡ old.name
     → bytes_under (set files i file) name ≡ Some file.bytes
 bytes_under-set_same files name i old file first reads keeps =
@@ -83,7 +83,7 @@ bytes_under-set_same files name i old file first reads keeps =
     ∙ ap bytes_of (find-set (is_named name) files i file found.0 found.1 is_named_too)
 
 -- the same: what is found under any other name
-pub bytes_under-set_other : (files : Files) (name : List ℕ) (i : ℕ) (old file : MemoryFileValue)
+pub bytes_under-set_other : (files : FileList) (name : List ℕ) (i : ℕ) (old file : MemoryFileValue)
     → index_under files name ≡ Some i → old ≡ get_or files i old → file.name ≡ old.name
     → (other : List ℕ) → other ≢ name → bytes_under (set files i file) other ≡ bytes_under files other
 bytes_under-set_other files name i old file first reads keeps other differs =
@@ -94,7 +94,7 @@ bytes_under-set_other files name i old file first reads keeps other differs =
     bytes_under_find (set files i file) other ∙ ap bytes_of same ∙ sym (bytes_under_find files other)
 
 -- a file of a new name is put behind the others: what is found under it
-pub bytes_under-push_same : (files : Files) (name : List ℕ) (file : MemoryFileValue) → file.name ≡ name
+pub bytes_under-push_same : (files : FileList) (name : List ℕ) (file : MemoryFileValue) → file.name ≡ name
     → index_under files name ≡ None → bytes_under (files ++ file ∷ []) name ≡ Some file.bytes
 bytes_under-push_same files name file named missing =
     let past : length files ≤ position_or_len (is_named name) files = grind (arith, nat_tests) in
@@ -104,7 +104,7 @@ bytes_under-push_same files name file named missing =
     ∙ rw (none, is_found) refl
 
 -- the same: what is found under any other name
-pub bytes_under-push_other : (files : Files) (name : List ℕ) (file : MemoryFileValue) → file.name ≡ name
+pub bytes_under-push_other : (files : FileList) (name : List ℕ) (file : MemoryFileValue) → file.name ≡ name
     → (other : List ℕ) → other ≢ name → bytes_under (files ++ file ∷ []) other ≡ bytes_under files other
 bytes_under-push_other files name file named other differs =
     let passed = has_other_name file name other named differs in

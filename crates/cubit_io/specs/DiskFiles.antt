@@ -9,12 +9,12 @@ pub record DiskFilesValue : Type 0 where
   pub faults : ℕ
 
 -- nothing is told, of what is held or of what is left
-abbrev pub untold : {A : Type 0} → DiskFilesValue → Option A
-untold files = None
+abbrev pub nothing_told : {A : Type 0} → DiskFilesValue → Option A
+nothing_told files = None
 
 -- how many calls failed
-abbrev pub faults_of : DiskFilesValue → ℕ
-faults_of files = files.faults
+abbrev pub fault_count : DiskFilesValue → ℕ
+fault_count files = files.faults
 
 -- the bytes that reads of the chosen file will give, where it tells that; none where there is no file
 abbrev pub remaining_of : {File : Type 0} → (File → Option (List ℕ)) → Option File → Option (List ℕ)

@@ -6,8 +6,8 @@ use Rattle.cubit_io.specs.Held.{Held, IsMissing, Chooses}
 use Rattle.cubit_io.specs.Pieces.{Gives}
 
 -- a call of `begin`; a missing name is no fault
-pub record Begins {Object T E : Type 0} (held : Object → Held) (rest : Object → Option (List ℕ)) (faults : Object → ℕ)
-    (old new : Object) (name : List ℕ) (result : Result T E) : Type 0 where
+pub record IsBegin {Object T E : Type 0} (held : Object → Held) (rest : Object → Option (List ℕ)) (faults : Object → ℕ)
+    (name : List ℕ) (old new : Object) (result : Result T E) : Type 0 where
   pub chosen : OnOk result (Chooses (held old) name (rest new))
   pub missing : IsMissing (held old) name → IsErr result × (faults new ≡ faults old)
   pub cause : OnErr result (IsMissing (held old) name ⊎ Rose (faults old) (faults new))
@@ -16,7 +16,7 @@ pub record Begins {Object T E : Type 0} (held : Object → Held) (rest : Object 
   pub counted : faults old ≤ faults new
 
 -- a call of `read`, which finds the buffer as `before` and leaves it as `after`
-pub record Reads {Object E : Type 0} (held : Object → Held) (rest : Object → Option (List ℕ)) (faults : Object → ℕ)
+pub record IsRead {Object E : Type 0} (held : Object → Held) (rest : Object → Option (List ℕ)) (faults : Object → ℕ)
     (old new : Object) (before after : List ℕ) (result : Result ℕ E) : Type 0 where
   pub within : IfOk result (λ n. n ≤ length before)
   pub given : IfOk result (λ n. Gives (rest old) (take n after) (rest new))

@@ -37,8 +37,8 @@ abbrev pub rest_of : MemoryFilesValue → Option (List ℕ)
 rest_of memory = Some memory.rest
 
 -- how many faults there were
-abbrev pub faults_of : MemoryFilesValue → ℕ
-faults_of memory = memory.faults
+abbrev pub fault_count : MemoryFilesValue → ℕ
+fault_count memory = memory.faults
 
 -- what is left from a place on
 abbrev pub left_at : List MemoryFileValue → Option Place → List ℕ

@@ -13,5 +13,5 @@ abbrev pub taken_of : MemorySinkValue → Option (List ℕ)
 taken_of sink = Some sink.taken
 
 -- how many calls failed
-abbrev pub faults_of : MemorySinkValue → ℕ
-faults_of sink = sink.faults
+abbrev pub fault_count : MemorySinkValue → ℕ
+fault_count sink = sink.faults

@@ -5,8 +5,8 @@ use Rattle.cubit_io.specs.Count.{Rose}
 use Rattle.cubit_io.specs.Pieces.{GrewBy}
 
 -- a call of `write` with these bytes
-pub record Writes {Object E : Type 0} (taken : Object → Option (List ℕ)) (faults : Object → ℕ)
-    (old new : Object) (bytes : List ℕ) (result : Result ℕ E) : Type 0 where
+pub record IsWrite {Object E : Type 0} (taken : Object → Option (List ℕ)) (faults : Object → ℕ)
+    (bytes : List ℕ) (old new : Object) (result : Result ℕ E) : Type 0 where
   pub within : IfOk result (λ n. n ≤ length bytes)
   pub progress : 0 < length bytes → IfOk result (λ n. 0 < n)
   pub grew : IfOk result (λ n. GrewBy (taken old) (taken new) (take n bytes))

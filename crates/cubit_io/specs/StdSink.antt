@@ -7,9 +7,9 @@ pub record StdSinkValue : Type 0 where
   pub faults : ℕ
 
 -- nothing is told of what was taken
-abbrev pub untold : StdSinkValue → Option (List ℕ)
-untold sink = None
+abbrev pub nothing_told : StdSinkValue → Option (List ℕ)
+nothing_told sink = None
 
 -- how many calls failed
-abbrev pub faults_of : StdSinkValue → ℕ
-faults_of sink = sink.faults
+abbrev pub fault_count : StdSinkValue → ℕ
+fault_count sink = sink.faults

@@ -6,8 +6,8 @@ use Rattle.cubit_io.specs.declared.whole.ReadStop.{ReadStop}
 use Rattle.cubit_io.specs.declared.whole.ReadStop.TheVariants.{Fault, TooLong}
 
 -- a call that reads all bytes of the file of this name, where they are no more than the limit; else it says why not
-pub record ReadsWhole {Object A : Type 0} (held : Object → Held) (faults : Object → ℕ) (old new : Object)
-    (name : List ℕ) (limit : ℕ) (result : Result (Vec ℕ A) ReadStop) : Type 0 where
+pub record IsWholeRead {Object A : Type 0} (held : Object → Held) (faults : Object → ℕ) (limit : ℕ)
+    (name : List ℕ) (old new : Object) (result : Result (Vec ℕ A) ReadStop) : Type 0 where
   pub whole : IfOk result (λ bytes. HoldsWhereTold (held old) name bytes.items)
   pub within : IfOk result (λ bytes. vec_len bytes ≤ limit)
   pub fault : IsErrOf result Fault → IsMissing (held old) name ⊎ Rose (faults old) (faults new)

@@ -2,8 +2,8 @@
 ghost use Rattle.std.specs.Prelude.{◌≡◌, [], Some, Ok, false, is_ok, if◌then◌else◌};
 ghost use Rattle.std.specs.Io.KnownBytes.{ReadConsumes};
 ghost use Rattle.cubit_io.specs.Count.{raised};
-ghost use Rattle.cubit_io.specs.DiskFiles.{untold, faults_of};
-ghost use Rattle.cubit_io.specs.Files.{Begins, Reads};
+ghost use Rattle.cubit_io.specs.DiskFiles.{nothing_told, fault_count};
+ghost use Rattle.cubit_io.specs.Files.{IsBegin, IsRead};
 
 use crate::count::raised;
 use crate::{Failed, Files};
@@ -47,15 +47,15 @@ impl<R: HostFiles> DiskFiles<R> {
 }
 
 impl<R: HostFiles> Files for DiskFiles<R> {
-    ghost held = { untold };
+    ghost held = { nothing_told };
 
-    ghost rest = { untold };
+    ghost rest = { nothing_told };
 
-    ghost faults = { faults_of };
+    ghost faults = { fault_count };
 
     /// Opens a file. It lets go of one that was chosen before, also where it fails.
     fn begin(&mut self, name: &str) -> Result<(), Failed>
-        ensures begins { Begins untold untold faults_of self.old self.new name.now result }
+        ensures is_begin { IsBegin nothing_told nothing_told fault_count name.now self.old self.new result }
         ensures opened { self.new.has_chosen ≡ is_ok result }
         ensures faults { self.new.faults ≡ (if is_ok result then self.old.faults else raised self.old.faults) }
     {
@@ -74,7 +74,7 @@ impl<R: HostFiles> Files for DiskFiles<R> {
 
     /// Reads on in the chosen file.
     fn read(&mut self, buffer: &mut [u8]) -> Result<usize, Failed>
-        ensures reads { Reads untold untold faults_of self.old self.new buffer.old buffer.new result }
+        ensures is_read { IsRead nothing_told nothing_told fault_count self.old self.new buffer.old buffer.new result }
 
         // It gives what the runtime's file gives.
         ensures passed_on { ReadConsumes self.old.remaining self.new.remaining result buffer.new }

@@ -1,6 +1,6 @@
 //! Named files that are read from their start, one at a time.
 ghost use Rattle.std.specs.Prelude.{ℕ, List, Option};
-ghost use Rattle.cubit_io.specs.Files.{Begins, Reads};
+ghost use Rattle.cubit_io.specs.Files.{IsBegin, IsRead};
 ghost use Rattle.cubit_io.specs.Held.{Held};
 
 /// The outside failed. It says no more.
@@ -20,10 +20,10 @@ pub trait Files {
 
     /// Chooses a file, from its start. Where it fails, none is chosen. A missing name is no fault.
     fn begin(&mut self, name: &str) -> Result<(), Failed>
-        ensures { Begins held rest faults self.old self.new name.now result };
+        ensures { IsBegin held rest faults name.now self.old self.new result };
 
     /// Moves a front of what is left into the buffer. 0 in a buffer that is not empty is the end of the file, and
     /// where no file is chosen.
     fn read(&mut self, buffer: &mut [u8]) -> Result<usize, Failed>
-        ensures { Reads held rest faults self.old self.new buffer.old buffer.new result };
+        ensures { IsRead held rest faults self.old self.new buffer.old buffer.new result };
 }

@@ -6,11 +6,11 @@
 //!
 //! # Proved
 //!
-//! - `Files` (`Begins`, `Reads` in `specs/Files.antt`): which file is chosen, that each read gives its next bytes, and
-//!   0 only at its end, and that a call fails only where the name is missing or the count of faults rose.
-//! - `Sink` (`Writes` in `specs/Sink.antt`): a front of the bytes is taken, of at least one; it fails only where
+//! - `Files` (`IsBegin`, `IsRead` in `specs/Files.antt`): which file is chosen, that each read gives its next bytes,
+//!   and 0 only at its end, and that a call fails only where the name is missing or the count of faults rose.
+//! - `Sink` (`IsWrite` in `specs/Sink.antt`): a front of the bytes is taken, of at least one; it fails only where
 //!   the count of faults rose, and then took nothing.
-//! - `read_all` (`ReadsWhole` in `specs/Whole.antt`): all bytes of the file, at most `FILE_LIMIT`. `Fault` comes only
+//! - `read_all` (`IsWholeRead` in `specs/Whole.antt`): all bytes of the file, at most `FILE_LIMIT`. `Fault` comes only
 //!   where the name is missing or the files failed, and always at a missing name; `TooLong` only for a longer file, and
 //!   no longer file is read.
 //! - `write_all`: the bytes were taken (`whole`), or a front of them and the sink failed (`part`, `cause`). `tell`: the

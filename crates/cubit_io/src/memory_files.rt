@@ -2,7 +2,7 @@
 ghost use Rattle.std.specs.Prelude.{◌≡◌, ◌≢◌, ◌⊎◌, ◌<◌, ◌≤◌, ◌+◌, ◌-◌, [], List, ℕ, Some, length, min, take, drop, Contains, IfOk, IfSome, OnOk, OnErr, IsErr, is_ok, if◌then◌else◌};
 ghost use Rattle.std.specs.Str.{bytes_eq};
 ghost use Rattle.cubit_io.specs.Count.{raised};
-ghost use Rattle.cubit_io.specs.Files.{Begins, Reads};
+ghost use Rattle.cubit_io.specs.Files.{IsBegin, IsRead};
 ghost use Rattle.cubit_io.specs.Held.{IsMissing};
 ghost use Rattle.cubit_io.specs.MemoryFiles.{bytes_under, index_under};
 
@@ -137,17 +137,17 @@ impl MemoryFiles {
 }
 
 impl Files for MemoryFiles {
-    ghost use Rattle.cubit_io.specs.MemoryFiles.{held_of, rest_of, faults_of};
+    ghost use Rattle.cubit_io.specs.MemoryFiles.{held_of, rest_of, fault_count};
 
     ghost held = { held_of };
 
     ghost rest = { rest_of };
 
-    ghost faults = { faults_of };
+    ghost faults = { fault_count };
 
     /// It takes no memory. It fails where the call is listed, and at a missing name.
     fn begin(&mut self, name: &str) -> Result<(), Failed>
-        ensures begins { Begins held_of rest_of faults_of self.old self.new name.now result }
+        ensures is_begin { IsBegin held_of rest_of fault_count name.now self.old self.new result }
         ensures listed { Contains self.new.fails self.new.calls → IsErr result }
         ensures not_listed { OnErr result
             (IsMissing (held_of self.old) name.now ⊎ Contains self.new.fails self.new.calls) }
@@ -172,7 +172,7 @@ impl Files for MemoryFiles {
     /// Fills the buffer as far as bytes are left. It fails where the call is listed.
     #[tactic(auto, using(crate::proofs::Names::bytes_at_is))]
     fn read(&mut self, buffer: &mut [u8]) -> Result<usize, Failed>
-        ensures reads { Reads held_of rest_of faults_of self.old self.new buffer.old buffer.new result }
+        ensures is_read { IsRead held_of rest_of fault_count self.old self.new buffer.old buffer.new result }
         ensures count { IfOk result (λ n. n ≡ min (length self.old.rest) (length buffer.old)) }
         ensures listed { Contains self.new.fails self.new.calls → IsErr result }
         ensures not_listed { OnErr result (Contains self.new.fails self.new.calls) }

@@ -1,8 +1,8 @@
 //! A sink in memory, for tests and for callers that want the bytes.
 ghost use Rattle.std.specs.Prelude.{◌≡◌, [], length, Contains, IfOk, IsErr, is_ok, if◌then◌else◌};
 ghost use Rattle.cubit_io.specs.Count.{raised};
-ghost use Rattle.cubit_io.specs.MemorySink.{taken_of, faults_of};
-ghost use Rattle.cubit_io.specs.Sink.{Writes};
+ghost use Rattle.cubit_io.specs.MemorySink.{taken_of, fault_count};
+ghost use Rattle.cubit_io.specs.Sink.{IsWrite};
 
 use crate::count::raised;
 use crate::failing_calls::FailingCalls;
@@ -54,11 +54,11 @@ impl MemorySink {
 impl Sink for MemorySink {
     ghost taken = { taken_of };
 
-    ghost faults = { faults_of };
+    ghost faults = { fault_count };
 
     /// Takes all the bytes. It fails where the call is listed, and where there is no memory for them.
     fn write(&mut self, bytes: &[u8]) -> Result<usize, Failed>
-        ensures writes { Writes taken_of faults_of self.old self.new bytes.now result }
+        ensures is_write { IsWrite taken_of fault_count bytes.now self.old self.new result }
         ensures whole { IfOk result (λ n. n ≡ length bytes.now) }
         ensures listed { Contains self.new.fails self.new.calls → IsErr result }
         ensures number { self.new.calls ≡ raised self.old.calls }

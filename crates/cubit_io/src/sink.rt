@@ -1,6 +1,6 @@
 //! Where output goes.
 ghost use Rattle.std.specs.Prelude.{ℕ, List, Option};
-ghost use Rattle.cubit_io.specs.Sink.{Writes};
+ghost use Rattle.cubit_io.specs.Sink.{IsWrite};
 
 use crate::Failed;
 
@@ -14,5 +14,5 @@ pub trait Sink {
 
     /// Takes a front of the bytes, of at least one byte where there is one, and says how many.
     fn write(&mut self, bytes: &[u8]) -> Result<usize, Failed>
-        ensures { Writes taken faults self.old self.new bytes.now result };
+        ensures { IsWrite taken faults bytes.now self.old self.new result };
 }

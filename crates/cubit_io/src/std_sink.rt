@@ -3,8 +3,8 @@
 ghost use Rattle.std.specs.Prelude.{◌≡◌, [], None, take, IfOk, OnErr, is_ok, if◌then◌else◌};
 ghost use Rattle.std.specs.Io.KnownBytes.{Appends};
 ghost use Rattle.cubit_io.specs.Count.{raised};
-ghost use Rattle.cubit_io.specs.Sink.{Writes};
-ghost use Rattle.cubit_io.specs.StdSink.{untold, faults_of};
+ghost use Rattle.cubit_io.specs.Sink.{IsWrite};
+ghost use Rattle.cubit_io.specs.StdSink.{nothing_told, fault_count};
 
 use crate::count::raised;
 use crate::{Failed, Sink};
@@ -52,13 +52,13 @@ impl StdSink<Stderr> {
 }
 
 impl<W: Write + Drop> Sink for StdSink<W> {
-    ghost taken = { untold };
+    ghost taken = { nothing_told };
 
-    ghost faults = { faults_of };
+    ghost faults = { fault_count };
 
     /// Writes without a buffer. It fails too where the outside took nothing of bytes that are there.
     fn write(&mut self, bytes: &[u8]) -> Result<usize, Failed>
-        ensures writes { Writes untold faults_of self.old self.new bytes.now result }
+        ensures is_write { IsWrite nothing_told fault_count bytes.now self.old self.new result }
         ensures faults { self.new.faults ≡ (if is_ok result then self.old.faults else raised self.old.faults) }
 
         // A stream that tells what it holds holds what was taken.

@@ -2,7 +2,7 @@
 ghost use Rattle.std.specs.Prelude.{◌≡◌, ◌≤◌, [], IsOk, OnOk, OnErr};
 ghost use Rattle.cubit_io.specs.Count.{Rose};
 ghost use Rattle.cubit_io.specs.Pieces.{GrewBy, GrewByPrefix};
-ghost use Rattle.cubit_io.specs.Whole.{ReadsWhole};
+ghost use Rattle.cubit_io.specs.Whole.{IsWholeRead};
 ghost use Rattle.cubit_io.specs.declared.whole.ReadStop.TheVariants.{Fault, Memory};
 
 use crate::{Failed, Files, Sink};
@@ -45,7 +45,7 @@ impl From<AllocError> for ReadStop {
 
 /// All bytes of a file of at most `FILE_LIMIT` bytes.
 pub fn read_all<F: Files>(alloc: Global, files: &mut F, name: &str) -> Result<Vec<u8>, ReadStop>
-    ensures { ReadsWhole F.held F.faults files.old files.new name.now FILE_LIMIT result }
+    ensures { IsWholeRead F.held F.faults FILE_LIMIT name.now files.old files.new result }
 {
     read_up_to(alloc, files, name, FILE_LIMIT)
 }
@@ -57,7 +57,7 @@ fn read_up_to<F: Files>(
     name: &str,
     limit: usize,
 ) -> Result<Vec<u8>, ReadStop>
-    ensures { ReadsWhole F.held F.faults files.old files.new name.now limit result }
+    ensures { IsWholeRead F.held F.faults limit name.now files.old files.new result }
 {
     files.begin(name)?;
     let mut bytes = Vec::new(alloc);

@@ -5,8 +5,8 @@ use Rattle.cubit_io.proofs.Names.{bytes_at_is}
 use Rattle.cubit_io.proofs.memory_files.MemoryFilesFiles.read.Goals as goal
 
 -- what was left is the piece and what is left now
-pub returns-clause-reads : goal.returns-clause-reads
-returns-clause-reads c =
+pub returns-clause-is_read : goal.returns-clause-is_read
+returns-clause-is_read c =
     let files = c.self.inside.files.items in
     let place = c.in-Some.place in
     let count = c.copy_from-count.result in
