@@ -1,7 +1,10 @@
 //! How the process ends: with the status of its one call.
-ghost use Rattle.std.specs.Prelude.{◌≡◌, ◌↔◌, map, string_bytes, IsNone};
+ghost use Rattle.std.specs.Prelude.{◌≡◌, None, map, string_bytes};
 ghost use Rattle.std.specs.Process.{exit_status};
-ghost use Rattle.cubit_cli.specs.Words.{query_of};
+ghost use Rattle.cubit_cli.specs.Call.{IsCall};
+ghost use Rattle.cubit_cli.specs.Status.{exit_code};
+ghost use Rattle.cubit_cli.specs.World.{files_state, sink_state};
+ghost use Rattle.cubit_cli.specs.declared.status.Status.{Status};
 
 use cubit_cli::run;
 use cubit_io::{Files, StdSink};
@@ -32,7 +35,16 @@ impl Exit {
         out: &mut StdSink<Stdout>,
         err: &mut StdSink<Stderr>,
     ) -> Exit
-        ensures usage { (result ≡ 2) ↔ IsNone (query_of (map string_bytes words.now.items)) }
+        ensures { (status : Status) × (result ≡ exit_code status) × IsCall (map string_bytes words.now.items)
+            (record {
+                files = files_state (F.held files.old) (F.faults files.old);
+                out = sink_state None out.old.faults;
+                err = sink_state None err.old.faults })
+            (record {
+                files = files_state (F.held files.new) (F.faults files.new);
+                out = sink_state None out.new.faults;
+                err = sink_state None err.new.faults })
+            status }
     {
         let status = run(alloc, words, files, out, err);
         Exit {
