@@ -1,6 +1,7 @@
 //! Bitvectors in the word-aligned hybrid code: a list of truth values takes 32-bit words, of which each holds 31 rows
-//! as they are or counts equal groups of them. Each list has one spelling, and the operations go over the words of both
-//! lists run by run, so that no list is ever expanded to its rows. Callers see a [`Wah`] as the list that it spells.
+//! as they are or counts equal groups of them. A list has at most one spelling, and operations go over the words of
+//! both lists run by run, so that no list is ever expanded to its rows. Callers see a [`Wah`] as the list that it
+//! spells.
 //!
 //! # Proved
 //!
