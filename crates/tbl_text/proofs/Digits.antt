@@ -6,7 +6,7 @@ use Rattle.std.proofs.lemmas.List.{get_or-take, length-take, length-drop, take_m
 use Rattle.std.proofs.lemmas.Nat.{pow-add}
 use Rattle.std.proofs.lemmas.List.Folds.{length-prefix_len}
 use Rattle.std.proofs.lemmas.List.Sums.{prefix_len_is, prefix_len_passes, take_while-cons, list_all-from_AllPass}
-use Rattle.tbl_text.specs.Field.{is_digit, spelled_after, spelled, leading_digits, after_digits, integer_value}
+use Rattle.tbl_text.specs.Field.{is_digit, spelled_after, spelled, leading_digits, after_digits, IsFrontInteger, integer_value}
 
 -- the front is digits
 pub AllPass-leading_digits : (bytes : List ℕ) → AllPass is_digit (leading_digits bytes)
@@ -22,23 +22,26 @@ leading_digits-digits (b ∷ bytes) digits =
     take_while-cons is_digit b bytes ∙ rw (parts.0, leading_digits-digits bytes parts.1) refl
 
 -- one to ten digits are an integer
-pub integer_value-digits : (digits : List ℕ) → AllPass is_digit digits → 1 ≤ length digits → length digits ≤ 10 → integer_value digits ≡ Some (spelled digits)
+integer_value-digits : (digits : List ℕ) → AllPass is_digit digits → 1 ≤ length digits → length digits ≤ 10
+    → integer_value digits ≡ Some (spelled digits)
 integer_value-digits digits all low high =
     rw (list_all-from_AllPass is_digit digits all, le-leb 1 (length digits) low, le-leb (length digits) 10 high) refl
 
 -- the digits at the front, where they are an integer, and what follows them
-pub front_read : (bytes digits rest : List ℕ) (n number : ℕ) → n ≡ prefix_len is_digit bytes → digits ≡ take n bytes → rest ≡ drop n bytes
-    → 1 ≤ length digits → length digits ≤ 10 → number ≡ spelled digits
-    → (integer_value (leading_digits bytes) ≡ Some number) × (rest ≡ after_digits bytes)
+pub front_read : (bytes digits rest : List ℕ) (n number : ℕ) → n ≡ prefix_len is_digit bytes
+    → digits ≡ take n bytes → rest ≡ drop n bytes → 1 ≤ length digits → length digits ≤ 10 → number ≡ spelled digits
+    → IsFrontInteger bytes rest number
 front_read bytes digits rest n number count front back low high value =
     let is : digits ≡ leading_digits bytes = front ∙ ap (λ k. take k bytes) count in
-    let all : AllPass is_digit digits = rw is (AllPass-leading_digits bytes) in (
-      rw (← is) (integer_value-digits digits all low high ∙ ap Some (sym value)),
-      back ∙ ap (λ k. drop k bytes) (count ∙ sym (length-prefix_len is_digit bytes)),
-    )
+    let all : AllPass is_digit digits = rw is (AllPass-leading_digits bytes) in
+    record {
+      value = rw (← is) (integer_value-digits digits all low high ∙ ap Some (sym value));
+      behind = back ∙ ap (λ k. drop k bytes) (count ∙ sym (length-prefix_len is_digit bytes));
+    }
 
 -- no integer at the front: the field is none
-pub integer_value-leading_none : (field : List ℕ) → integer_value (leading_digits field) ≡ None → integer_value field ≡ None
+pub integer_value-leading_none : (field : List ℕ) → integer_value (leading_digits field) ≡ None
+    → integer_value field ≡ None
 integer_value-leading_none field none =
     elim (cases_Bool (list_all is_digit field)) [
       | inl digits ↦ rw (leading_digits-digits field digits) at none
@@ -49,19 +52,25 @@ integer_value-leading_none field none =
 pub integer_value-more : (field : List ℕ) → 1 ≤ length (after_digits field) → integer_value field ≡ None
 integer_value-more field more =
     elim (cases_Bool (list_all is_digit field)) [
-      | inl digits ↦ absurd (omega (arith, length-drop (length (leading_digits field)) field, ap length (leading_digits-digits field digits)))
+      | inl digits ↦
+          let len = length (leading_digits field) in
+          absurd (omega (arith, length-drop len field, ap length (leading_digits-digits field digits)))
       | inr odd ↦ rw odd refl
     ]
 
 -- ---- one digit after another
 
-spelled_after-append : (n : ℕ) (digits : List ℕ) (b : ℕ) → spelled_after n (digits ++ b ∷ []) ≡ spelled_after n digits * 10 + (b - 48)
+-- one digit behind others
+spelled_after-append : (n : ℕ) (digits : List ℕ) (b : ℕ)
+    → spelled_after n (digits ++ b ∷ []) ≡ spelled_after n digits * 10 + (b - 48)
 spelled_after-append n [] b = refl
 spelled_after-append n (d ∷ digits) b = spelled_after-append (n * 10 + (d - 48)) digits b
 
 -- one digit more
-pub spelled_more : (bytes : List ℕ) (at : ℕ) → at < length bytes → spelled (take (at + 1) bytes) ≡ spelled (take at bytes) * 10 + (get_or bytes at 0 - 48)
-spelled_more bytes at within = ap spelled (take_more bytes at 0 within) ∙ spelled_after-append 0 (take at bytes) (get_or bytes at 0)
+pub spelled_more : (bytes : List ℕ) (at : ℕ) → at < length bytes
+    → spelled (take (at + 1) bytes) ≡ spelled (take at bytes) * 10 + (get_or bytes at 0 - 48)
+spelled_more bytes at within =
+    ap spelled (take_more bytes at 0 within) ∙ spelled_after-append 0 (take at bytes) (get_or bytes at 0)
 
 -- a digit's value
 pub digit_value : (b : ℕ) → is_digit b ≡ true → b - 48 ≤ 9
@@ -72,8 +81,11 @@ pub spelled_fits : (number digit at : ℕ) → number < 10 ^ at → digit ≤ 9 
 spelled_fits number digit at fits is_digit = omega (arith, pow-add 10 at 1)
 
 -- digits up to a place where none stands are those at the front
-pub front_digits : (bytes : List ℕ) (at number : ℕ) → at < length bytes → ((k : ℕ) → k < at → is_digit (get_or bytes k 0) ≡ true) → is_digit (get_or bytes at 0) ≡ false
-    → 1 ≤ at → at ≤ 10 → number ≡ spelled (take at bytes) → (integer_value (leading_digits bytes) ≡ Some number) × (drop at bytes ≡ after_digits bytes)
-front_digits bytes at number within before stops low high value =
+pub front_digits : (bytes rest : List ℕ) (at number : ℕ) → rest ≡ drop at bytes → at < length bytes
+    → ((k : ℕ) → k < at → is_digit (get_or bytes k 0) ≡ true) → is_digit (get_or bytes at 0) ≡ false
+    → 1 ≤ at → at ≤ 10 → number ≡ spelled (take at bytes) → IsFrontInteger bytes rest number
+front_digits bytes rest at number back within before stops low high value =
     let len : length (take at bytes) ≡ at = omega (arith, length-take at bytes) in
-    front_read bytes (take at bytes) (drop at bytes) at number (sym (prefix_len_is is_digit bytes at 0 (omega arith) before (λ _. stops))) refl refl (omega arith) (omega arith) value
+    let count : at ≡ prefix_len is_digit bytes =
+    sym (prefix_len_is is_digit bytes at 0 (omega arith) before (λ _. stops)) in
+    front_read bytes (take at bytes) rest at number count refl back (omega arith) (omega arith) value

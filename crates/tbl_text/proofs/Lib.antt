@@ -13,3 +13,4 @@ pub mod SortedEntries
 pub mod SortedKeys
 pub mod TakenFields
 pub mod TakenLine
+pub mod TakenTail

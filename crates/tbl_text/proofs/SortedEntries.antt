@@ -1,5 +1,5 @@
 -- What two neighbours among entries say of the least tie so far.
-use Rattle.std.proofs.Common.{◌≡◌, ℕ, ◌+◌, ◌-◌, ◌<◌, ◌≤◌, suc, true, false, List, [], ◌∷◌, ◌++◌, length, get_or, take, map, slice_get, Option, Some, None, MatchOption, refl, sym, ap, ◌∙◌, inl, inr, arith}
+use Rattle.std.proofs.Common.{◌≡◌, ℕ, ◌+◌, ◌-◌, ◌<◌, ◌≤◌, suc, List, [], ◌∷◌, ◌++◌, length, get_or, take, map, slice_get, Option, Some, None, refl, sym, ap, ◌∙◌, inl, inr, arith}
 use Rattle.std.specs.List.{enumerate_from, AllAdjacentBelow}
 use Rattle.std.proofs.lemmas.Bool.{cases_Bool, cases_lt, false≢true, lt-ltb, le-ltb}
 use Rattle.std.proofs.lemmas.Option.{same_Some, slice_get_within, get_or_from_slice_get}
@@ -9,13 +9,8 @@ use Rattle.cubit_base.specs.Key.{same_key}
 use Rattle.cubit_base.specs.Table.{Row}
 use Rattle.tbl_text.specs.declared.base.repeats.Entry.{Entry}
 use Rattle.tbl_text.specs.declared.base.repeats.Repeat.{Repeat}
-use Rattle.tbl_text.specs.Repeats.{entry_of, entries_of, lesser_tie, HasSameKey, HasNoTie, IsLeastTie}
+use Rattle.tbl_text.specs.Repeats.{entry_of, entries_of, lesser_tie, HasSameKey, IsLeastTie, FindsLeastTie}
 use Rattle.tbl_text.proofs.Keys.{same_key-true, same_key-same}
-
--- a least tie up to a place, or none
-abbrev pub LeastTie : List Entry → ℕ → Option Repeat → Type 0
-LeastTie entries end least =
-    MatchOption least (HasNoTie entries end) (λ tie. IsLeastTie entries end tie.earlier tie.later)
 
 -- these entries stand before a place and at it
 pub record AreNeighbours (entries : List Entry) (i : ℕ) (a b : Entry) : Type 0 where
@@ -41,9 +36,9 @@ adjacent_more R entries i a b at all holds =
     all_adjacent_more entries R i at.some all (λ d. rw (at.before d, at.here d) holds)
 
 -- a tie stays least, where the two there have two keys, or the later of them a row that is not below it
-IsLeastTie-more : (entries : List Entry) (i earlier later : ℕ) (a b : Entry) → AreNeighbours entries i a b
+IsLeastTie-keep : (entries : List Entry) (i earlier later : ℕ) (a b : Entry) → AreNeighbours entries i a b
     → IsLeastTie entries i earlier later → (HasSameKey a b → later ≤ b.row) → IsLeastTie entries (i + 1) earlier later
-IsLeastTie-more entries i earlier later a b at tie next = record {
+IsLeastTie-keep entries i earlier later a b at tie next = record {
   place = tie.place;
   within = tie.within;
   earlier_is = tie.earlier_is;
@@ -53,7 +48,7 @@ IsLeastTie-more entries i earlier later a b at tie next = record {
 }
 
 -- no tie before has a row below this
-below-each : (entries : List Entry) (i later : ℕ) (least : Option Repeat) → LeastTie entries i least
+below-each : (entries : List Entry) (i later : ℕ) (least : Option Repeat) → FindsLeastTie entries i least
     → ((tie : Repeat) → least ≡ Some tie → later < tie.later)
     → AllAdjacentBelow (λ a b. HasSameKey a b → later ≤ b.row) entries i
 below-each entries i later None before below k d within same = absurd (before k d within same)
@@ -61,10 +56,10 @@ below-each entries i later (Some tie) before below k d within same =
     omega (arith, before.least k d within same, below tie refl)
 
 -- the two there are the least tie, where they have one key and the later of them the least row so far
-LeastTie-new : (entries : List Entry) (i : ℕ) (a b : Entry) (least : Option Repeat) → AreNeighbours entries i a b
-    → LeastTie entries i least → HasSameKey a b → ((tie : Repeat) → least ≡ Some tie → b.row < tie.later)
-    → LeastTie entries (i + 1) (Some (record { earlier = a.row; later = b.row }))
-LeastTie-new entries i a b least at before same below =
+FindsLeastTie-new : (entries : List Entry) (i : ℕ) (a b : Entry) (least : Option Repeat) → AreNeighbours entries i a b
+    → FindsLeastTie entries i least → HasSameKey a b → ((tie : Repeat) → least ≡ Some tie → b.row < tie.later)
+    → FindsLeastTie entries (i + 1) (Some (record { earlier = a.row; later = b.row }))
+FindsLeastTie-new entries i a b least at before same below =
     let next : i - 1 + 1 ≡ i = omega (arith, at.some) in
     record {
       place = i - 1;
@@ -77,45 +72,47 @@ LeastTie-new entries i a b least at before same below =
     }
 
 -- the two there are no tie, where they have two keys
-LeastTie-other : (entries : List Entry) (i : ℕ) (a b : Entry) (least : Option Repeat) → AreNeighbours entries i a b
-    → LeastTie entries i least → ¬ HasSameKey a b → LeastTie entries (i + 1) least
-LeastTie-other entries i a b None at before other =
+FindsLeastTie-other : (entries : List Entry) (i : ℕ) (a b : Entry) (least : Option Repeat) → AreNeighbours entries i a b
+    → FindsLeastTie entries i least → ¬ HasSameKey a b → FindsLeastTie entries (i + 1) least
+FindsLeastTie-other entries i a b None at before other =
     adjacent_more (λ x y. ¬ HasSameKey x y) entries i a b at before other
-LeastTie-other entries i a b (Some tie) at before other =
-    IsLeastTie-more entries i tie.earlier tie.later a b at before (λ same. absurd (other same))
+FindsLeastTie-other entries i a b (Some tie) at before other =
+    IsLeastTie-keep entries i tie.earlier tie.later a b at before (λ same. absurd (other same))
 
 -- the least tie with the two there among the neighbours
-pub LeastTie-more : (entries : List Entry) (i : ℕ) (a b : Entry) (least : Option Repeat) → AreNeighbours entries i a b
-    → LeastTie entries i least → LeastTie entries (i + 1) (lesser_tie least a b)
-LeastTie-more entries i a b None at before =
+pub FindsLeastTie-more : (entries : List Entry) (i : ℕ) (a b : Entry) (least : Option Repeat)
+    → AreNeighbours entries i a b → FindsLeastTie entries i least → FindsLeastTie entries (i + 1) (lesser_tie least a b)
+FindsLeastTie-more entries i a b None at before =
     elim (cases_Bool (same_key a.key b.key)) [
-      | inl same ↦ rw same (LeastTie-new entries i a b None at before (same_key-true a.key b.key same) (λ tie is. cc))
+      | inl same ↦
+          let is_same = same_key-true a.key b.key same in
+          rw same (FindsLeastTie-new entries i a b None at before is_same (λ tie is. cc))
       | inr other ↦
           let differ : ¬ HasSameKey a b = λ same. false≢true (sym other ∙ same_key-same a.key b.key same) in
-          rw other (LeastTie-other entries i a b None at before differ)
+          rw other (FindsLeastTie-other entries i a b None at before differ)
     ]
-LeastTie-more entries i a b (Some tie) at before =
+FindsLeastTie-more entries i a b (Some tie) at before =
     elim (cases_Bool (same_key a.key b.key)) [
       | inl same ↦
           elim (cases_lt b.row tie.later) [
             | inl below ↦
                 let least = λ (other : Repeat) (is : Some tie ≡ Some other). rw (same_Some tie other is) at below in
                 rw (same, lt-ltb b.row tie.later below)
-                (LeastTie-new entries i a b (Some tie) at before (same_key-true a.key b.key same) least)
+                (FindsLeastTie-new entries i a b (Some tie) at before (same_key-true a.key b.key same) least)
             | inr above ↦
                 rw (same, le-ltb b.row tie.later above)
-                (IsLeastTie-more entries i tie.earlier tie.later a b at before (λ _. above))
+                (IsLeastTie-keep entries i tie.earlier tie.later a b at before (λ _. above))
           ]
       | inr other ↦
           let differ : ¬ HasSameKey a b = λ same. false≢true (sym other ∙ same_key-same a.key b.key same) in
-          rw other (LeastTie-other entries i a b (Some tie) at before differ)
+          rw other (FindsLeastTie-other entries i a b (Some tie) at before differ)
     ]
 
 -- up to a lower place
-pub LeastTie-upto : (entries : List Entry) (i n : ℕ) (least : Option Repeat) → n ≤ i → LeastTie entries i least
-    → LeastTie entries n least
-LeastTie-upto entries i n None low before = λ k d within. before k d (omega arith)
-LeastTie-upto entries i n (Some tie) low before = record {
+pub FindsLeastTie-upto : (entries : List Entry) (i n : ℕ) (least : Option Repeat) → n ≤ i
+    → FindsLeastTie entries i least → FindsLeastTie entries n least
+FindsLeastTie-upto entries i n None low before = λ k d within. before k d (omega arith)
+FindsLeastTie-upto entries i n (Some tie) low before = record {
   place = before.place;
   within = before.within;
   earlier_is = before.earlier_is;

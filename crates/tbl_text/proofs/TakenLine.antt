@@ -16,10 +16,11 @@ use Rattle.tbl_text.specs.Lines.{pieces, fields_of}
 use Rattle.tbl_text.specs.FirstRow.{Begins}
 use Rattle.tbl_text.proofs.Bars.{pieces-separator}
 use Rattle.tbl_text.proofs.FirstLine.{lines_of-text, end_shorter}
-use Rattle.tbl_text.proofs.TakenFields.{clean_text, clean_free}
+use Rattle.tbl_text.proofs.TakenFields.{IsClean, clean_text, clean_free}
 
 -- a number within the bounds
-within-some : (low high n : ℕ) (number : Option ℕ) (f : LineFault) → number ≡ Some n → low ≤ n → n ≤ high → within low high number f ≡ Ok n
+within-some : (low high n : ℕ) (number : Option ℕ) (f : LineFault) → number ≡ Some n → low ≤ n → n ≤ high
+    → within low high number f ≡ Ok n
 within-some low high n number f is above below = rw (is, le-leb low n above, le-leb n high below) refl
 
 -- text
@@ -30,30 +31,70 @@ text-ok field is = rw is refl
 ok_or-some : {A : Type 0} (value : Option A) (x : A) (f : LineFault) → value ≡ Some x → ok_or value f ≡ Ok x
 ok_or-some value x f is = rw is refl
 
--- the fields before the date and with it, and five texts
-fields_value-taken : (f1 f2 f3 f4 f5 f6 f7 f8 f9 f10 f11 : List ℕ) (texts : List (List ℕ)) (key : KeyValue) (t : TupleValue)
-    → integer_value f1 ≡ Some key.order → is_text f2 ≡ true → is_text f3 ≡ true → integer_value f4 ≡ Some key.line → quantity_value f5 ≡ Some t.qty → money_value f6 ≡ Some t.price
-    → money_value f7 ≡ Some t.disc → money_value f8 ≡ Some t.tax → flag_value f9 ≡ Some t.flag → status_value f10 ≡ Some t.status → date_value f11 ≡ Some t.day
-    → length texts ≡ 5 → list_all is_text texts ≡ true → IsKey key → key.order ≤ 4_294_967_295 → IsTuple t
-    → fields_value (f1 ∷ f2 ∷ f3 ∷ f4 ∷ f5 ∷ f6 ∷ f7 ∷ f8 ∷ f9 ∷ f10 ∷ f11 ∷ texts) ≡ Ok (key, t)
-fields_value-taken f1 f2 f3 f4 f5 f6 f7 f8 f9 f10 f11 (f12 ∷ f13 ∷ f14 ∷ f15 ∷ f16 ∷ []) key t order part supp number qty price disc tax flag status day count texts is_key fits is_tuple =
+-- the fields of the first line were taken one after another, and say this key and this tuple
+pub record TakesLine (bytes rest : List ℕ) (key : KeyValue) (t : TupleValue) : Type 0 where
+  pub after_order : List ℕ
+  pub after_part : List ℕ
+  pub after_supp : List ℕ
+  pub after_line : List ℕ
+  pub after_quantity : List ℕ
+  pub after_price : List ℕ
+  pub after_discount : List ℕ
+  pub after_tax : List ℕ
+  pub after_flag : List ℕ
+  pub after_status : List ℕ
+  pub after_date : List ℕ
+  pub order : Takes integer_value bytes after_order (Some key.order)
+  pub part : Takes is_text after_order after_part true
+  pub supp : Takes is_text after_part after_supp true
+  pub line : Takes integer_value after_supp after_line (Some key.line)
+  pub quantity : Takes quantity_value after_line after_quantity (Some t.qty)
+  pub price : Takes money_value after_quantity after_price (Some t.price)
+  pub discount : Takes money_value after_price after_discount (Some t.disc)
+  pub tax : Takes money_value after_discount after_tax (Some t.tax)
+  pub flag : Takes flag_value after_tax after_flag (Some t.flag)
+  pub status : Takes status_value after_flag after_status (Some t.status)
+  pub date : Takes date_value after_status after_date (Some t.day)
+  pub tail : EndsLine after_date rest
+
+-- a key and a tuple that a line may have
+pub record AreInRange (key : KeyValue) (t : TupleValue) : Type 0 where
+  pub key_in : IsKey key
+  pub order_in : key.order ≤ 4_294_967_295
+  pub tuple_in : IsTuple t
+
+-- the eleven fields up to the date
+abbrev front_fields : {bytes rest : List ℕ} {key : KeyValue} {t : TupleValue} → TakesLine bytes rest key t
+    → List (List ℕ) → List (List ℕ)
+front_fields taken others =
+    taken.order.field ∷ taken.part.field ∷ taken.supp.field ∷ taken.line.field ∷ taken.quantity.field
+    ∷ taken.price.field ∷ taken.discount.field ∷ taken.tax.field ∷ taken.flag.field ∷ taken.status.field
+    ∷ taken.date.field ∷ others
+
+-- with five texts behind them they have the value
+fields_value-taken : (bytes rest : List ℕ) (key : KeyValue) (t : TupleValue) (taken : TakesLine bytes rest key t)
+    (texts : List (List ℕ)) → AreInRange key t → length texts ≡ 5 → list_all is_text texts ≡ true
+    → fields_value (front_fields taken texts) ≡ Ok (key, t)
+fields_value-taken bytes rest key t taken (f12 ∷ f13 ∷ f14 ∷ f15 ∷ f16 ∷ []) fits count texts =
     let t12 = and_parts (is_text f12) _ texts in
     let t13 = and_parts (is_text f13) _ t12.1 in
     let t14 = and_parts (is_text f14) _ t13.1 in
     let t15 = and_parts (is_text f15) _ t14.1 in
     let t16 = and_parts (is_text f16) true t15.1 in
+    let is_key = fits.key_in in
+    let is_tuple = fits.tuple_in in
     rw (
-      within-some 1 4_294_967_295 key.order (integer_value f1) fault.Order order is_key.order fits,
-      text-ok f2 part,
-      text-ok f3 supp,
-      within-some 1 7 key.line (integer_value f4) fault.Line number is_key.line_low is_key.line_high,
-      within-some 1 50 t.qty (quantity_value f5) fault.Quantity qty is_tuple.qty_low is_tuple.qty_high,
-      within-some 0 99_999_999 t.price (money_value f6) fault.Price price (omega arith) is_tuple.price,
-      within-some 0 10 t.disc (money_value f7) fault.Discount disc (omega arith) is_tuple.disc,
-      within-some 0 8 t.tax (money_value f8) fault.Tax tax (omega arith) is_tuple.tax,
-      ok_or-some (flag_value f9) t.flag fault.Flag flag,
-      ok_or-some (status_value f10) t.status fault.Status status,
-      ok_or-some (date_value f11) t.day fault.Date day,
+      within-some 1 4_294_967_295 key.order _ fault.Order taken.order.reads is_key.order fits.order_in,
+      text-ok taken.part.field taken.part.reads,
+      text-ok taken.supp.field taken.supp.reads,
+      within-some 1 7 key.line _ fault.Line taken.line.reads is_key.line_low is_key.line_high,
+      within-some 1 50 t.qty _ fault.Quantity taken.quantity.reads is_tuple.qty_low is_tuple.qty_high,
+      within-some 0 99_999_999 t.price _ fault.Price taken.price.reads (omega arith) is_tuple.price,
+      within-some 0 10 t.disc _ fault.Discount taken.discount.reads (omega arith) is_tuple.disc,
+      within-some 0 8 t.tax _ fault.Tax taken.tax.reads (omega arith) is_tuple.tax,
+      ok_or-some _ t.flag fault.Flag taken.flag.reads,
+      ok_or-some _ t.status fault.Status taken.status.reads,
+      ok_or-some _ t.day fault.Date taken.date.reads,
       text-ok f12 t12.0,
       text-ok f13 t13.0,
       text-ok f14 t14.0,
@@ -61,10 +102,11 @@ fields_value-taken f1 f2 f3 f4 f5 f6 f7 f8 f9 f10 f11 (f12 ∷ f13 ∷ f14 ∷ f
       text-ok f16 t16.0,
     )
     refl
-fields_value-taken f1 f2 f3 f4 f5 f6 f7 f8 f9 f10 f11 texts' key t order part supp number qty price disc tax flag status day count texts is_key fits is_tuple = absurd (omega arith)
+fields_value-taken bytes rest key t taken others fits count texts = absurd (omega arith)
 
 -- a line with a piece has its pieces for fields
-fields_of-some : (line field : List ℕ) (others : List (List ℕ)) → pieces 124 line ≡ field ∷ others → fields_of line ≡ field ∷ others
+fields_of-some : (line field : List ℕ) (others : List (List ℕ)) → pieces 124 line ≡ field ∷ others
+    → fields_of line ≡ field ∷ others
 fields_of-some [] field others is = absurd cc
 fields_of-some (b ∷ line) field others is = is
 
@@ -75,31 +117,52 @@ record Front (back old : List ℕ) (fields : List (List ℕ)) : Type 0 where
   text : is_text line ≡ true
   fields_are : pieces 124 line ≡ fields
 
--- one field more in front
-front_more : {A : Type 0} {read : List ℕ → A} {back old new : List ℕ} {fields : List (List ℕ)} {value : A} (taken : Takes read old new value) → Front back new fields → Front back old (taken.field ∷ fields)
-front_more {back = back} taken front = record {
-  line = taken.field ++ 124 ∷ front.line;
-  cut = taken.cut ∙ ap (λ rest. taken.field ++ 124 ∷ rest) front.cut ∙ sym (append_assoc taken.field (124 ∷ front.line) back);
-  text = list_all-from_AllPass is_text_byte (taken.field ++ 124 ∷ front.line)
-      (All-append (λ b. is_text_byte b ≡ true) taken.field (124 ∷ front.line) (clean_text taken.field taken.clean)
-      (All-cons (λ b. is_text_byte b ≡ true) 124 front.line refl (AllPass-from_list_all is_text_byte front.line front.text)));
-  fields_are = pieces-separator 124 taken.field front.line (clean_free taken.field taken.clean) ∙ ap (λ others. taken.field ∷ others) front.fields_are;
-}
+-- a field and a bar before text are text
+text-more : (field line : List ℕ) → IsClean field → is_text line ≡ true → is_text (field ++ 124 ∷ line) ≡ true
+text-more field line clean text =
+    let is : ℕ → Type 0 = λ b. is_text_byte b ≡ true in
+    list_all-from_AllPass is_text_byte (field ++ 124 ∷ line)
+    (All-append is field (124 ∷ line) (clean_text field clean)
+    (All-cons is 124 line refl (AllPass-from_list_all is_text_byte line text)))
 
--- the line whose fields were taken one after another is the first, and has their value
-pub begins-taken : (bytes r1 r2 r3 r4 r5 r6 r7 r8 r9 r10 r11 rest : List ℕ) (key : KeyValue) (t : TupleValue)
-    → Takes integer_value bytes r1 (Some key.order) → Takes is_text r1 r2 true → Takes is_text r2 r3 true → Takes integer_value r3 r4 (Some key.line)
-    → Takes quantity_value r4 r5 (Some t.qty) → Takes money_value r5 r6 (Some t.price) → Takes money_value r6 r7 (Some t.disc) → Takes money_value r7 r8 (Some t.tax)
-    → Takes flag_value r8 r9 (Some t.flag) → Takes status_value r9 r10 (Some t.status) → Takes date_value r10 r11 (Some t.day) → EndsLine r11 rest
-    → IsKey key → key.order ≤ 4_294_967_295 → IsTuple t → Begins bytes rest (Ok (key, t))
-begins-taken bytes r1 r2 r3 r4 r5 r6 r7 r8 r9 r10 r11 rest key t t1 t2 t3 t4 t5 t6 t7 t8 t9 t10 t11 end is_key fits is_tuple =
-    let tail : Front end.back r11 (pieces 124 end.tail) = record { line = end.tail; cut = end.cut; text = end.text; fields_are = refl } in
-    let front = front_more t1 (front_more t2 (front_more t3 (front_more t4 (front_more t5 (front_more t6 (front_more t7 (front_more t8 (front_more t9 (front_more t10 (front_more t11 tail)))))))))) in
+-- one field more in front
+front_more : {A : Type 0} {read : List ℕ → A} {back old new : List ℕ} {fields : List (List ℕ)} {value : A}
+    (taken : Takes read old new value) → Front back new fields → Front back old (taken.field ∷ fields)
+front_more {back = back} taken front =
+    let field = taken.field in
+    record {
+      line = field ++ 124 ∷ front.line;
+      cut = taken.cut
+          ∙ ap (λ rest. field ++ 124 ∷ rest) front.cut
+          ∙ sym (append_assoc field (124 ∷ front.line) back);
+      text = text-more field front.line taken.clean front.text;
+      fields_are = pieces-separator 124 field front.line (clean_free field taken.clean)
+          ∙ ap (λ others. field ∷ others) front.fields_are;
+    }
+
+-- the fields that were taken are the front of the bytes, up to the line's end
+front_taken : {bytes rest : List ℕ} {key : KeyValue} {t : TupleValue} (taken : TakesLine bytes rest key t)
+    → Front taken.tail.back bytes (front_fields taken (pieces 124 taken.tail.tail))
+front_taken taken =
+    let end = taken.tail in
+    let tail : Front end.back taken.after_date (pieces 124 end.tail) =
+    record { line = end.tail; cut = end.cut; text = end.text; fields_are = refl } in
+    let letters = front_more taken.flag (front_more taken.status (front_more taken.date tail)) in
+    let money = front_more taken.price (front_more taken.discount (front_more taken.tax letters)) in
+    let numbers = front_more taken.line (front_more taken.quantity money) in
+    front_more taken.order (front_more taken.part (front_more taken.supp numbers))
+
+-- that line is the first, and has their value
+pub begins-taken : (bytes rest : List ℕ) (key : KeyValue) (t : TupleValue) → TakesLine bytes rest key t
+    → AreInRange key t → Begins bytes rest (Ok (key, t))
+begins-taken bytes rest key t taken fits =
+    let end = taken.tail in
+    let front = front_taken taken in
+    let value =
+    fields_value-taken bytes rest key t taken (pieces 124 end.tail) fits end.fields.count end.fields.texts in
     record {
       line = front.line;
       lines = lines_of-text bytes front.line end.back rest front.cut front.text end.end;
-      value = ap fields_value (fields_of-some front.line _ _ front.fields_are)
-          ∙ fields_value-taken t1.field t2.field t3.field t4.field t5.field t6.field t7.field t8.field t9.field t10.field t11.field (pieces 124 end.tail) key t
-          t1.reads t2.reads t3.reads t4.reads t5.reads t6.reads t7.reads t8.reads t9.reads t10.reads t11.reads end.fields.count end.fields.texts is_key fits is_tuple;
+      value = ap fields_value (fields_of-some front.line _ _ front.fields_are) ∙ value;
       shorter = end_shorter bytes front.line end.back rest front.cut end.end;
     }

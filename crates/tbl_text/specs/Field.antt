@@ -38,6 +38,11 @@ leading_digits field = take_while is_digit field
 abbrev pub after_digits : List ℕ → List ℕ
 after_digits field = drop (length (leading_digits field)) field
 
+-- this integer stands at the front of the bytes, and rest is what follows its digits
+pub record IsFrontInteger (bytes rest : List ℕ) (number : ℕ) : Type 0 where
+  pub value : integer_value (leading_digits bytes) ≡ Some number
+  pub behind : rest ≡ after_digits bytes
+
 -- the hundredths behind the whole part of money: nothing, or a point and one or two digits, the first of them tenths
 abbrev pub hundredths_value : List ℕ → Option ℕ
 hundredths_value [] = Some 0

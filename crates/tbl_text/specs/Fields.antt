@@ -10,6 +10,6 @@ pub record IsCut (bytes field rest : List ℕ) : Type 0 where
 -- the sixteen fields of a line in order
 abbrev pub listed : Fields → List (List ℕ)
 listed f =
-    f.orderkey.now ∷ f.partkey.now ∷ f.suppkey.now ∷ f.linenumber.now ∷ f.quantity.now ∷ f.extendedprice.now ∷ f.discount.now ∷ f.tax.now
-    ∷ f.returnflag.now ∷ f.linestatus.now ∷ f.shipdate.now ∷ f.commitdate.now ∷ f.receiptdate.now ∷ f.shipinstruct.now ∷ f.shipmode.now
-    ∷ f.comment.now ∷ []
+    f.orderkey.now ∷ f.partkey.now ∷ f.suppkey.now ∷ f.linenumber.now ∷ f.quantity.now ∷ f.extendedprice.now
+    ∷ f.discount.now ∷ f.tax.now ∷ f.returnflag.now ∷ f.linestatus.now ∷ f.shipdate.now ∷ f.commitdate.now
+    ∷ f.receiptdate.now ∷ f.shipinstruct.now ∷ f.shipmode.now ∷ f.comment.now ∷ []

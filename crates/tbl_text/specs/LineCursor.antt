@@ -1,13 +1,13 @@
 -- What the fast reader takes from the front of a file.
-use Rattle.std.specs.Prelude.{◌≡◌, ◌⊎◌, ℕ, ◌==◌, Bool, not, ◌&&◌, true, List, ◌∷◌, ◌++◌, length, Option, Some, IfSome}
+use Rattle.std.specs.Prelude.{◌≡◌, ◌⊎◌, ℕ, Bool, not, ◌&&◌, true, List, ◌∷◌, ◌++◌, length, Option, Some, IfSome}
 use Rattle.std.specs.List.{AllPass, list_all}
 use Rattle.tbl_text.specs.declared.fast.LineCursor.{LineCursor}
 use Rattle.tbl_text.specs.Field.{is_text_byte, is_text}
-use Rattle.tbl_text.specs.Lines.{pieces}
+use Rattle.tbl_text.specs.Lines.{is_bar, pieces}
 
 -- a byte of text that is no bar
 abbrev pub is_field_byte : ℕ → Bool
-is_field_byte b = is_text_byte b && not (b == 124)
+is_field_byte b = is_text_byte b && not (is_bar b)
 
 -- the first field of old is text and reads as this value, and new is what follows its bar
 pub record Takes {A : Type 0} (read : List ℕ → A) (old new : List ℕ) (value : A) : Type 0 where

@@ -1,5 +1,5 @@
 -- The rows that were read so far.
-use Rattle.std.specs.Prelude.{ℕ, ◌-◌, Bool, true, List, length, slice_get, AllPairs, Option, Some, None, option_map, IsTrue}
+use Rattle.std.specs.Prelude.{◌-◌, Bool, true, List, length, slice_get, AllPairs, Option, Some, None, option_map, IsTrue}
 use Rattle.cubit_base.specs.Key.{KeyValue, key_is_less}
 use Rattle.cubit_base.specs.Table.{Row}
 

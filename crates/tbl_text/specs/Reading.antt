@@ -1,14 +1,13 @@
 -- How the lines of a file are read, one after another.
-use Rattle.std.specs.Prelude.{◌≡◌, ℕ, ◌+◌, ◌-◌, ◌<◌, ◌==◌, Bool, true, ◌||◌, ◌&&◌, nat_lt, List, [], ◌∷◌, length, take, slice_get, slice_index_or, AllPairs, Option, Some, None, option_map, Result, Ok, Err, if◌then◌else◌, IsTrue}
+use Rattle.std.specs.Prelude.{ℕ, ◌+◌, ◌==◌, List, [], ◌∷◌, Option, Some, None, Result, Ok, Err, if◌then◌else◌}
 use Rattle.cubit_base.specs.Key.{KeyValue}
 use Rattle.cubit_base.specs.Tuple.{TupleValue}
-use Rattle.cubit_base.specs.Table.{Row, HasDistinctKeys}
+use Rattle.cubit_base.specs.Table.{Row}
 use Rattle.tbl_text.specs.declared.line.LineFault.{LineFault}
 use Rattle.tbl_text.specs.declared.base.ReadEnd.{ReadEnd}
 use Rattle.tbl_text.specs.declared.base.ReadEnd.TheVariants as end
 use Rattle.tbl_text.specs.Base.{LinesFault, TooMany, Line}
 use Rattle.tbl_text.specs.Line.{line_value}
-use Rattle.tbl_text.specs.Lines.{lines_of}
 
 -- the rows of some lines up to the first of them that is bad by itself, and what is wrong with that line
 abbrev pub Read : Type 0

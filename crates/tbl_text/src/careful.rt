@@ -1,11 +1,11 @@
-//! The careful reader: it cuts a line into its fields and judges them one after another, as the definition of a line does.
-//! It reads every spelling that is accepted, and finds the first fault of any line.
-ghost use Rattle.std.specs.Prelude.{◌≡◌, ◌≢◌, ◌≤◌, [], count_by, ◌==◌, length, IfOk};
+//! The careful reader: it cuts a line into its fields and judges them one after another, as the definition of a line
+//! does. It reads every spelling that is accepted, and finds the first fault of any line.
+ghost use Rattle.std.specs.Prelude.{◌≡◌, ◌≢◌, ◌≤◌, [], count_by, length, IfOk};
 ghost use Rattle.std.specs.List.{position_or_len};
 ghost use Rattle.tbl_text.specs.Fields.{IsCut, listed};
 ghost use Rattle.tbl_text.specs.FirstRow.{IsFirstRow};
 ghost use Rattle.tbl_text.specs.Line.{fields_value, within, text, line_value};
-ghost use Rattle.tbl_text.specs.Lines.{fields_of};
+ghost use Rattle.tbl_text.specs.Lines.{is_bar, fields_of};
 
 use crate::field::{
     date_field, ends_in_bar, flag_of, integer_of, is_text, money_of, quantity_of, status_of,
@@ -73,7 +73,7 @@ fn field_count(line: &[u8]) -> u32
 
 fn bar_count(bytes: &[u8]) -> u32
     requires { length bytes.now ≤ u32.MAX }
-    ensures { result ≡ count_by (λ b. b == 124) bytes.now }
+    ensures { result ≡ count_by is_bar bytes.now }
 {
     let mut bars = 0u32;
     for b in bytes {
@@ -135,7 +135,7 @@ fn next_field(bytes: &[u8]) -> (&[u8], &[u8])
 
 // The place of the first bar, or the number of bytes.
 fn bar_at(bytes: &[u8]) -> usize
-    ensures { result ≡ position_or_len (λ b. b == 124) bytes.now }
+    ensures { result ≡ position_or_len is_bar bytes.now }
 {
     for (at, b) in bytes.iter().enumerate() {
         if *b == b'|' {

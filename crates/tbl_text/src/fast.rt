@@ -1,11 +1,12 @@
-//! The fast reader: it takes a file's first line where that is in the common spelling, in one pass over the file with no
-//! search for the line's end first. What it takes is the line's value. It gives up at the first thing that is odd, also
-//! at spellings that are accepted and rare, and close to the end of the file.
-ghost use Rattle.std.specs.Prelude.{◌≡◌, ◌≤◌, ◌∷◌, ◌++◌, ◌==◌, true, take, count_by, Ok, IfSome};
+//! The fast reader: it takes a file's first line where that is in the common spelling, in one pass over the file with
+//! no search for the line's end first. What it takes is the line's value. It gives up at the first thing that is odd,
+//! also at spellings that are accepted and rare, and close to the end of the file.
+ghost use Rattle.std.specs.Prelude.{◌≡◌, ◌≤◌, ◌∷◌, ◌++◌, true, take, count_by, Ok, IfSome};
 ghost use Rattle.std.specs.Bool.{OnTrue};
 ghost use Rattle.tbl_text.specs.Field.{integer_value, money_value, quantity_value, date_value, flag_value, status_value, is_text};
 ghost use Rattle.tbl_text.specs.FirstRow.{Begins};
 ghost use Rattle.tbl_text.specs.LineCursor.{Takes, Finds, IsTail, EndsLine};
+ghost use Rattle.tbl_text.specs.Lines.{is_bar};
 
 mod front;
 mod wide;
@@ -238,7 +239,7 @@ impl<'a> LineCursor<'a> {
 #[inline(always)]
 fn is_five_fields(tail: &[u8], bars: usize) -> bool
     requires text { is_text tail.now ≡ true }
-    requires bars { bars ≡ count_by (λ b. b == 124) tail.now }
+    requires bars { bars ≡ count_by is_bar tail.now }
     ensures { OnTrue result (IsTail tail.now) }
 {
     bars == if ends_in_bar(tail) { 5 } else { 4 }

@@ -1,7 +1,8 @@
 //! Readers of single fields.
-ghost use Rattle.std.specs.Prelude.{◌≡◌, ◌-◌, ◌<◌, ◌≤◌, ◌^◌, ◌&&◌, ◌↔◌, false, length, slice_index, IfSome, IsTrue, MatchOption};
+ghost use Rattle.std.specs.Prelude.{◌≡◌, ◌<◌, ◌≤◌, ◌^◌, ◌&&◌, ◌↔◌, false, length, IfSome, IsTrue, MatchOption};
 ghost use Rattle.std.specs.List.{AllPass, prefix_len};
-ghost use Rattle.tbl_text.specs.Field.{is_digit, IsPair, spelled, leading_digits, after_digits, integer_value, hundredths_value, money_value, quantity_value, date_value, is_text, flag_value, status_value};
+ghost use Rattle.tbl_text.specs.Field.{is_digit, IsPair, spelled, leading_digits, IsFrontInteger, integer_value, hundredths_value, money_value, quantity_value, date_value, is_text, flag_value, status_value};
+ghost use Rattle.tbl_text.specs.Lines.{EndsInBar};
 
 use cubit_base::{Flag, LineStatus, day_of};
 
@@ -104,7 +105,7 @@ pub(crate) fn status_of(field: &[u8]) -> Option<LineStatus>
 fn leading_integer(bytes: &[u8]) -> Option<(u64, &[u8])>
     ensures value { MatchOption result
         (integer_value (leading_digits bytes.now) ≡ None)
-        (λ r. (integer_value (leading_digits bytes.now) ≡ Some r.0) × (r.1.now ≡ after_digits bytes.now)) }
+        (λ r. IsFrontInteger bytes.now r.1.now r.0) }
     ensures within { IfSome result (λ r. r.0 < 10 ^ MOST_DIGITS) }
 {
     let (digits, rest) = bytes.split_at(digit_count(bytes));
@@ -169,7 +170,7 @@ pub(crate) fn pair_of(tens: u8, ones: u8) -> Option<u8>
 /// Whether a bar ends the last field of a line.
 #[inline(always)]
 pub(crate) fn ends_in_bar(line: &[u8]) -> bool
-    ensures { IsTrue result ↔ ((1 ≤ length line.now) × (slice_index line.now (length line.now - 1) ≡ 124)) }
+    ensures { IsTrue result ↔ EndsInBar line.now }
 {
     matches!(line, [.., b'|'])
 }

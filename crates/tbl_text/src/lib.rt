@@ -1,5 +1,39 @@
-//! The text form of TPC-H's `lineitem` table: lines of sixteen fields between bars, read by a grammar that
-//! docs/FORMATS.md gives, each byte of it judged.
+//! The text form of TPC-H's `lineitem` table: lines of sixteen fields between bars, by the grammar of docs/FORMATS.md,
+//! each byte judged. A fast reader takes nearly all lines in one pass over the file. A careful reader, which is the
+//! definition's own program, reads every line that the fast one gives up on, and finds the first fault.
+//!
+//! # Proved
+//!
+//! Each call is safe and returns.
+//!
+//! - `base_of`: the table of all lines in their order, or the first fault of the file and its line (`value`). A want of
+//!   memory says nothing of the file. At most `row_limit` rows (`within`), and no key twice (`distinct`).
+//! - `line_of`: the key and the tuple of a line, or its first fault: the number of fields, and then from left to right.
+//!   `LineFault::number`: the number of that fault in docs/FORMATS.md.
+//! - `first_line`: none exactly where there are no bytes (`none`); the length of the line (`len`), where the next one
+//!   begins (`next`), both within the bytes (`within`); the lines are this one and those from there on (`lines`).
+//! - `integer_of`, `money_of`, `quantity_of`, `date_field` (`value`): what the field says, and nothing where it is
+//!   spelled in any other way. A date is at most 2556 days after 1992-01-01 (`within`).
+//!
+//! # Only tested
+//!
+//! - That `base_of` finds memory where there is some, also for more than a megabyte and where keys do not rise.
+//! - That the fast reader takes the spellings of TPC-H's generator; what it takes is proved to be the line's value.
+//!
+//! # Not said
+//!
+//! - How much memory a table takes, that memory is found, and how long a call takes.
+//! - What `Debug` prints.
+//!
+//! # Example
+//!
+//! ```
+//! match base_of(alloc, &file, ROW_LIMIT) {
+//!     Ok(table) => println!(rt; "{} rows", table.len())?,
+//!     Err(BaseFault::Line(line, fault)) => println!(rt; "line {line} has fault {}", fault.number())?,
+//!     Err(fault) => println!(rt; "{fault:?}")?,
+//! }
+//! ```
 #![tactic(auto)]
 
 mod base;

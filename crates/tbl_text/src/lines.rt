@@ -1,6 +1,6 @@
 //! The first line of some bytes.
 ghost use Rattle.std.specs.Prelude.{◌≡◌, ◌+◌, ◌<◌, ◌≤◌, ◌↔◌, ◌∷◌, [], length, min, take, drop, IsNone, IfSome};
-ghost use Rattle.tbl_text.specs.Lines.{lines_of, line_end, without_cr};
+ghost use Rattle.tbl_text.specs.Lines.{lines_of, line_end, line_len, next_line, without_cr};
 
 use memchr::memchr;
 
@@ -35,8 +35,8 @@ fn len_without_cr(line: &[u8]) -> usize
 pub fn first_line(bytes: &[u8]) -> Option<Line>
     ensures none { IsNone result ↔ (bytes.now ≡ []) }
     ensures within { IfSome result (λ line. (line.len ≤ line.next) × (0 < line.next) × (line.next ≤ length bytes.now)) }
-    ensures len { IfSome result (λ line. line.len ≡ length (without_cr (take (line_end bytes.now) bytes.now))) }
-    ensures next { IfSome result (λ line. line.next ≡ min (line_end bytes.now + 1) (length bytes.now)) }
+    ensures len { IfSome result (λ line. line.len ≡ line_len bytes.now) }
+    ensures next { IfSome result (λ line. line.next ≡ next_line bytes.now) }
 
     // The rest of the lines begins where the next line does.
     ensures lines { IfSome result (λ line. lines_of bytes.now

@@ -1,8 +1,7 @@
 //! The first key that stands twice.
-ghost use Rattle.std.specs.Prelude.{◌≡◌, ◌<◌, length, IfOk, MatchOption, IsPermutation};
+ghost use Rattle.std.specs.Prelude.{◌≡◌, length, IfOk, IsPermutation};
 ghost use Rattle.std.specs.List.Sorted.{IsSorted};
-ghost use Rattle.cubit_base.specs.Table.{HasDistinctKeys};
-ghost use Rattle.tbl_text.specs.Repeats.{IsFirstRepeat, entries_of, lesser_tie, HasNoTie, IsLeastTie, entry_cmp};
+ghost use Rattle.tbl_text.specs.Repeats.{FindsFirstRepeat, FindsLeastTie, entries_of, entry_cmp, lesser_tie};
 
 use super::rows::ReadRows;
 use crate::Memory;
@@ -28,9 +27,7 @@ const _: () = prove!(size_of::<Entry>() == 12);
 impl ReadRows {
     /// The first row whose key an earlier row has, with that row. Only where keys fell or stayed is memory taken.
     pub(crate) fn first_repeat(&self, alloc: Global) -> Result<Option<Repeat>, Memory>
-        ensures { IfOk result (λ found. MatchOption found
-            (HasDistinctKeys self.now.table)
-            (λ repeat. IsFirstRepeat self.now.table repeat.earlier repeat.later)) }
+        ensures { IfOk result (FindsFirstRepeat self.now.table) }
     {
         if self.are_rising {
             return Ok(None);
@@ -72,9 +69,7 @@ fn lesser_tie(least: Option<Repeat>, earlier: &Entry, later: &Entry) -> Option<R
 
 // The neighbours with one key whose later row is least.
 fn least_tie(entries: &[Entry]) -> Option<Repeat>
-    ensures { MatchOption result
-        (HasNoTie entries.now (length entries.now))
-        (λ tie. IsLeastTie entries.now (length entries.now) tie.earlier tie.later) }
+    ensures { FindsLeastTie entries.now (length entries.now) result }
 {
     let mut least = None;
     for i in 1..entries.len() {

@@ -1,6 +1,6 @@
 //! What stands at the front of some bytes.
 ghost use Rattle.std.specs.Prelude.{◌≡◌, ℕ, ◌⊎◌, ◌<◌, ◌^◌, ◌∷◌, IfSome};
-ghost use Rattle.tbl_text.specs.Field.{IsPair, leading_digits, after_digits, integer_value};
+ghost use Rattle.tbl_text.specs.Field.{IsPair, IsFrontInteger};
 ghost use Rattle.tbl_text.specs.LineCursor.{IsEnd};
 
 use crate::field::{MOST_DIGITS, pair_of};
@@ -9,8 +9,7 @@ use crate::field::{MOST_DIGITS, pair_of};
 /// number of turns counts the digits and reads them.
 #[inline(always)]
 pub(crate) fn front_number(bytes: &[u8]) -> Option<(u64, &[u8])>
-    ensures value { IfSome result (λ r. (integer_value (leading_digits bytes.now) ≡ Some r.0)
-        × (r.1.now ≡ after_digits bytes.now)) }
+    ensures value { IfSome result (λ r. IsFrontInteger bytes.now r.1.now r.0) }
     ensures within { IfSome result (λ r. r.0 < 10 ^ MOST_DIGITS) }
 {
     if bytes.len() <= MOST_DIGITS {

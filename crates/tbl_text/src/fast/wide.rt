@@ -1,8 +1,9 @@
 //! The text or the digits at the front of some bytes, many bytes at a time.
-ghost use Rattle.std.specs.Prelude.{◌≡◌, ◌^◌, ◌%◌, ◌≤◌, ◌<◌, ◌==◌, map, take, length, count_by, count_ones, IfSome};
+ghost use Rattle.std.specs.Prelude.{◌≡◌, ◌^◌, ◌%◌, ◌≤◌, ◌<◌, map, take, length, count_by, count_ones, IfSome};
 ghost use Rattle.std.specs.List.{prefix_len};
 ghost use Rattle.std.specs.Simd.Lanes.{mask_l};
 ghost use Rattle.tbl_text.specs.Field.{is_digit, is_text_byte};
+ghost use Rattle.tbl_text.specs.Lines.{is_bar};
 ghost use Rattle.tbl_text.specs.Wide.{is_odd_byte, is_no_digit};
 
 use std::simd::prelude::*;
@@ -12,11 +13,11 @@ const LANES: usize = 64;
 
 const DIGIT_LANES: usize = 16;
 
-/// How much text stands at the front, and how many bars are in it; none where it ends too close to the end of the bytes.
+/// How much text stands at the front, and how many bars are in it; none where it ends close to the end of the bytes.
 #[inline(always)]
 pub(crate) fn text_and_bars(bytes: &[u8]) -> Option<(usize, usize)>
     ensures len { IfSome result (λ r. r.0 ≡ prefix_len is_text_byte bytes.now) }
-    ensures bars { IfSome result (λ r. r.1 ≡ count_by (λ b. b == 124) (take r.0 bytes.now)) }
+    ensures bars { IfSome result (λ r. r.1 ≡ count_by is_bar (take r.0 bytes.now)) }
     ensures within { IfSome result (λ r. r.0 ≤ length bytes.now) }
 {
     let mut at = 0;
@@ -35,7 +36,7 @@ pub(crate) fn text_and_bars(bytes: &[u8]) -> Option<(usize, usize)>
     None
 }
 
-/// How many digits stand at the front; none where they are many, or end too close to the end of the bytes.
+/// How many digits stand at the front; none where they are many, or end close to the end of the bytes.
 #[inline(always)]
 pub(crate) fn few_digits(bytes: &[u8]) -> Option<usize>
     ensures { IfSome result (λ n. n ≡ prefix_len is_digit bytes.now) }
@@ -73,7 +74,7 @@ fn odd_lanes(lanes: u8x64) -> u64
 // The lanes that are bars.
 #[inline(always)]
 fn bar_lanes(lanes: u8x64) -> u64
-    ensures { result ≡ mask_l (map (λ b. b == 124) lanes) }
+    ensures { result ≡ mask_l (map is_bar lanes) }
 {
     lanes.simd_eq(u8x64::splat(b'|')).to_bitmask()
 }

@@ -6,7 +6,8 @@ pub returns-in-Some-clause-value : goal.returns-in-Some-clause-value
 returns-in-Some-clause-value c =
     let reading = c.in_ok-reading.reading in
     base_value-repeat c.args.row_limit c.args.bytes.now reading.rows.table (fault_of_end reading.end)
-    c.in-Some.repeat.earlier c.in-Some.repeat.later c.in_ok-reading.ensures.value (rw c.in-Some.is at c.in_ok-repeat.ensures)
+    c.in-Some.repeat.earlier c.in-Some.repeat.later c.in_ok-reading.ensures.value
+    (rw c.in-Some.is at c.in_ok-repeat.ensures)
 
 pub returns-in-TooMany-clause-value : goal.returns-in-TooMany-clause-value
 returns-in-TooMany-clause-value c =

@@ -3,7 +3,10 @@ use Rattle.tbl_text.proofs.Digits.{integer_value-leading_none, integer_value-mor
 use Rattle.tbl_text.proofs.field.integer_of.Goals as goal
 
 pub returns-in_err-number : goal.returns-in_err-number
-returns-in_err-number c = c.from_residual.ensures ∙ sym (integer_value-leading_none c.args.field.now c.in_err-number.ensures.value)
+returns-in_err-number c =
+    c.from_residual.ensures ∙ sym (integer_value-leading_none c.args.field.now c.in_err-number.ensures.value)
 
 pub returns-in_default : goal.returns-in_default
-returns-in_default c = sym (integer_value-more c.args.field.now (rw c.in_ok-number.ensures.value.1 at c.in_default.len_at_least))
+returns-in_default c =
+    let more = rw c.in_ok-number.ensures.value.behind at c.in_default.len_at_least in
+    sym (integer_value-more c.args.field.now more)

@@ -1,5 +1,5 @@
 use Rattle.std.proofs.Common.{length, arith}
-use Rattle.tbl_text.proofs.SortedEntries.{AreNeighbours-read, LeastTie-more, LeastTie-upto}
+use Rattle.tbl_text.proofs.SortedEntries.{AreNeighbours-read, FindsLeastTie-more, FindsLeastTie-upto}
 use Rattle.tbl_text.proofs.base.repeats.least_tie.Goals as goal
 
 pub loop-i-preserved : goal.loop-i-preserved
@@ -7,10 +7,10 @@ loop-i-preserved c =
     let entries = c.args.entries.now in
     let a = c.index-entries-i in
     let b = c.index-entries-i-in-loop-i in
-    let neighbours = AreNeighbours-read entries c.loop-i.i a.result b.result (omega arith) (omega arith) a.is b.is in
-    rw c.lesser_tie-least.ensures (LeastTie-more entries c.loop-i.i _ _ c.loop-i.least neighbours c.loop-i.invariant)
+    let at = AreNeighbours-read entries c.loop-i.i a.result b.result (omega arith) (omega arith) a.is b.is in
+    rw c.lesser_tie-least.ensures (FindsLeastTie-more entries c.loop-i.i _ _ c.loop-i.least at c.loop-i.invariant)
 
 pub returns : goal.returns
 returns c =
     let entries = c.args.entries.now in
-    LeastTie-upto entries c.loop-i.i (length entries) c.loop-i.least c.loop-i-test.false c.loop-i.invariant
+    FindsLeastTie-upto entries c.loop-i.i (length entries) c.loop-i.least c.loop-i-test.false c.loop-i.invariant

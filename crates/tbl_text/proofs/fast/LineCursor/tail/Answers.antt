@@ -1,4 +1,4 @@
-use Rattle.tbl_text.proofs.TakenFields.{front_text, ends_line}
+use Rattle.tbl_text.proofs.TakenTail.{front_text, ends_line}
 use Rattle.tbl_text.proofs.fast.LineCursor.tail.Goals as goal
 
 pub is_five_fields-requires-clause-text : goal.is_five_fields-requires-clause-text
@@ -7,4 +7,6 @@ is_five_fields-requires-clause-text c =
 
 pub returns : goal.returns
 returns c =
-    ends_line c.args.self.now.rest.now _ _ _ _ c.in_ok-len.ensures.len c.split_at.ensures.front c.split_at.ensures.back c.if-not-is_five_fields.ensures c.in_ok-self.ensures
+    let cut = c.split_at.ensures in
+    ends_line c.args.self.now.rest.now _ _ _ _ c.in_ok-len.ensures.len cut.front cut.back
+    c.if-not-is_five_fields.ensures c.in_ok-self.ensures

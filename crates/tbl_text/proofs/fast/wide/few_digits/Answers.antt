@@ -7,4 +7,5 @@ use Rattle.tbl_text.proofs.fast.wide.few_digits.Goals as goal
 pub returns : goal.returns
 returns c =
     let others = c.other_lanes-others in
-    sym (run_stops is_digit c.args.bytes.now 0 16 (omega arith) (omega arith) (omega (arith, others.ensures)) ∙ ap (count_trailing_zeros 64) (sym others.ensures))
+    let stops = run_stops is_digit c.args.bytes.now 0 16 (omega arith) (omega arith) (omega (arith, others.ensures)) in
+    sym (stops ∙ ap (count_trailing_zeros 64) (sym others.ensures))

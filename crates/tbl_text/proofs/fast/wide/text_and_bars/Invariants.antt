@@ -1,7 +1,7 @@
 use Rattle.std.proofs.Common.{◌≡◌, ◌+◌, ◌-◌, ◌≤◌, length, take, drop, count_by}
 use Rattle.std.specs.List.{prefix_len}
 use Rattle.tbl_text.specs.Field.{is_text_byte}
-use Rattle.tbl_text.proofs.MaskedRuns.{is_bar}
+use Rattle.tbl_text.specs.Lines.{is_bar}
 use Rattle.tbl_text.proofs.fast.wide.text_and_bars.Given as goal
 
 -- all bytes so far are text, and these bars are in them

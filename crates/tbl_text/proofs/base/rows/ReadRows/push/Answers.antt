@@ -9,4 +9,8 @@ invariant_of-self-2-clause-ends c =
 
 pub invariant_of-self-2-clause-rising : goal.invariant_of-self-2-clause-rising
 invariant_of-self-2-clause-rising c =
-    rw c.in_ok-push.ensures.ok (HasRisingKeys-push_iff c.args.self.now.table (c.args.key, Some c.args.tuple) c.args.self.now.are_rising c.is_above.result c.args.self.now.rising (c.is_above.ensures ∙ ap (is_above c.args.key) c.args.self.now.ends))
+    let rows = c.args.self.now in
+    let above = c.is_above.ensures ∙ ap (is_above c.args.key) rows.ends in
+    rw c.in_ok-push.ensures.ok
+    (HasRisingKeys-push_iff rows.table (c.args.key, Some c.args.tuple) rows.are_rising c.is_above.result rows.rising
+    above)
