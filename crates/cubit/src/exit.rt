@@ -37,13 +37,15 @@ impl Exit {
     ) -> Exit
         ensures { (status : Status) × (result ≡ exit_code status) × IsCall (map string_bytes words.now.items)
             (record {
-                files = files_state (F.held files.old) (F.faults files.old);
-                out = sink_state None out.old.faults;
-                err = sink_state None err.old.faults })
+              files = files_state (F.held files.old) (F.faults files.old);
+              out = sink_state None out.old.faults;
+              err = sink_state None err.old.faults;
+            })
             (record {
-                files = files_state (F.held files.new) (F.faults files.new);
-                out = sink_state None out.new.faults;
-                err = sink_state None err.new.faults })
+              files = files_state (F.held files.new) (F.faults files.new);
+              out = sink_state None out.new.faults;
+              err = sink_state None err.new.faults;
+            })
             status }
     {
         let status = run(alloc, words, files, out, err);
