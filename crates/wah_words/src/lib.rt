@@ -36,9 +36,11 @@
 //! ```
 #![tactic(auto)]
 
+mod block;
 mod builder;
 mod complement;
 mod count;
+mod cursor;
 mod operation;
 mod places;
 mod run;
