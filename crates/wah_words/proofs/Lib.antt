@@ -1,4 +1,5 @@
 pub mod Bits
+pub mod Blocks
 pub mod Counted
 pub mod Groups
 pub mod Marks

@@ -1,6 +1,6 @@
 -- What is left of words.
 use Rattle.std.specs.Prelude.{ℕ, List, ◌++◌, replicate}
-use Rattle.wah_words.specs.declared.walk.Cursor.{Cursor}
+use Rattle.wah_words.specs.declared.cursor.Cursor.{Cursor}
 use Rattle.wah_words.specs.Word.{groups}
 
 -- the rest of the run, and the groups of the words after it

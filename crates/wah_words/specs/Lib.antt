@@ -2,4 +2,5 @@ pub mod Canonical
 pub mod Cursor
 pub mod Group
 pub mod Rows
+pub mod Walk
 pub mod Word

@@ -8,8 +8,10 @@ ghost use Rattle.std.specs.Prelude.{ℕ, ◌≡◌, ◌<◌, ◌≤◌, ◌+◌,
 ghost use Rattle.wah_words.specs.Group.{filled, unpacked};
 ghost use Rattle.wah_words.specs.Word.{groups};
 ghost use Rattle.wah_words.specs.Canonical.{AreRuns};
+ghost use Rattle.wah_words.specs.Walk.{AreMixed};
 
 use crate::Memory;
+use crate::block::BLOCK_WORDS;
 use crate::run::{ALL_TRUE, Run, fill_word, joins, word_complement};
 use std::alloc::Global;
 use std::marker::Model;
@@ -70,6 +72,16 @@ impl Builder {
         ensures err { OnErr result (self.new ≡ self.old) }
     {
         self.words.push(group)?;
+        Ok(())
+    }
+
+    /// Puts a block of groups at the end of which each has rows that differ.
+    #[inline(always)]
+    pub(crate) fn push_literals(&mut self, block: &[u32; BLOCK_WORDS]) -> Result<(), Memory>
+        requires { AreMixed block.now }
+        ensures { OnOk result (self.new ≡ self.old ++ block.now) }
+    {
+        self.words.extend_from_slice(block)?;
         Ok(())
     }
 

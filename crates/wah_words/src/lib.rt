@@ -37,9 +37,11 @@
 //! ```
 #![tactic(auto)]
 
+mod block;
 mod builder;
 mod complement;
 mod count;
+mod cursor;
 mod operation;
 mod places;
 mod run;

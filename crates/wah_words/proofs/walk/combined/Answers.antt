@@ -1,59 +1,25 @@
-use Rattle.std.proofs.Common.{◌∙◌, ◌++◌, ap, refl, arith, drop, length, replicate}
-use Rattle.std.proofs.lemmas.List.{length-append, length-replicate, length-drop}
-use Rattle.wah_words.specs.Group.{unpacked}
-use Rattle.wah_words.specs.Rows.{pointwise}
+use Rattle.std.proofs.Common.{[], arith}
 use Rattle.wah_words.specs.Word.{groups}
 use Rattle.wah_words.specs.Cursor.{groups_left}
-use Rattle.wah_words.proofs.Pointwise.{IsStep, pointwise-step, front_run}
+use Rattle.wah_words.proofs.Blocks.{continues-continues}
 use Rattle.wah_words.proofs.walk.combined.Goals as goal
 
-pub loop-left-preserved : goal.loop-left-preserved
-loop-left-preserved g c =
-    let bit = g.O.Operation.of_rows in
-    let left = c.refill.new.self in
-    let right = c.refill-in-loop-left.new.self in
-    let a = groups_left left in
-    let b = groups_left right in
-    let count = c.min-count.result in
-    let r = c.of_groups-group.result in
-    let step : IsStep bit a b count r = record {
-      left_group = left.run.group;
-      right_group = right.run.group;
-      left = front_run a (groups left.words.now) left.run.group left.run.count count (omega arith) refl;
-      right = front_run b (groups right.words.now) right.run.group right.run.count count (omega arith) refl;
-      rows = c.of_groups-group.ensures.rows;
-    } in
-    let pushed = c.in_ok-push_run.ensures.ok in
-    let left_rest = c.skip.ensures in
-    let right_rest = c.skip-in-loop-left.ensures in
-    let left_same = c.refill.ensures.same in
-    let right_same = c.refill-in-loop-left.ensures.same in (
-      rw (pushed, left_rest, right_rest)
-          (pointwise-step bit c.loop-left.out a b count r step
-          ∙ ap (λ gs. unpacked c.loop-left.out ++ pointwise bit (unpacked gs) (unpacked b)) left_same
-          ∙ ap (λ gs. unpacked c.loop-left.out ++ pointwise bit (unpacked (groups_left c.loop-left.left)) (unpacked gs))
-          right_same
-          ∙ c.loop-left.invariant.0),
-      omega (
-        arith,
-        ap length left_rest,
-        ap length right_rest,
-        length-drop count a,
-        length-drop count b,
-        ap length left_same,
-        ap length right_same,
-        c.loop-left.invariant.1,
-      ),
-      omega (
-        arith,
-        ap length pushed,
-        length-append c.loop-left.out (replicate count r),
-        length-replicate count r,
-        ap length left_rest,
-        ap length step.left,
-        length-append (replicate count left.run.group) (drop count a),
-        length-replicate count left.run.group,
-        ap length left_same,
-        c.loop-left.invariant.2,
-      ),
+pub loop-out-preserved : goal.loop-out-preserved
+loop-out-preserved g c =
+    continues-continues g.O.Operation.of_rows [] (groups c.args.a.now) (groups c.args.b.now) c.push_blocks.new.out
+    (groups_left c.push_blocks.new.left) (groups_left c.push_blocks.new.right) c.push_step.new.out
+    (groups_left c.push_step.new.left) (groups_left c.push_step.new.right)
+    (continues-continues g.O.Operation.of_rows [] (groups c.args.a.now) (groups c.args.b.now) c.loop-out.out
+    (groups_left c.loop-out.left) (groups_left c.loop-out.right) c.push_blocks.new.out
+    (groups_left c.push_blocks.new.left) (groups_left c.push_blocks.new.right) c.loop-out.invariant
+    c.in_ok-push_blocks.ensures)
+    c.in_ok-push_step.ensures.on
+
+pub loop-out-smaller : goal.loop-out-smaller
+loop-out-smaller g c =
+    omega (
+      arith,
+      c.in_ok-push_blocks.ensures.size,
+      c.in_ok-push_blocks.ensures.longer,
+      c.in_ok-push_step.ensures.fewer c.if-not-branch.false,
     )

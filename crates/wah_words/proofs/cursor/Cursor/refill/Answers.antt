@@ -3,7 +3,7 @@ use Rattle.std.proofs.lemmas.List.Elements.{All-rest}
 use Rattle.wah_words.specs.Word.{groups}
 use Rattle.wah_words.specs.Canonical.{IsCountedFill}
 use Rattle.wah_words.proofs.Words.{groups-cons}
-use Rattle.wah_words.proofs.walk.Cursor.refill.Goals as goal
+use Rattle.wah_words.proofs.cursor.Cursor.refill.Goals as goal
 
 pub invariant_of-self : goal.invariant_of-self
 invariant_of-self c =
