@@ -1,6 +1,9 @@
 //! Calls over files and sinks that fail.
-use super::{A, Failing, Left, NONE_FAILS, ROW_1, WORDS, check};
-use crate::Status;
+ghost use Rattle.std.specs.Prelude.{Some, None, []};
+
+use super::{A, Failing, Left, NONE_FAILS, ROW_1, WORDS, check, words_of};
+use crate::{Status, run};
+use cubit_io::{Failed, Files, MemorySink};
 use std::test::Fail;
 
 const DONE: Left<'static> = Left {
@@ -30,6 +33,40 @@ fn a_missing_base(rt: HostRuntime) -> Result<(), Fail> {
         NONE_FAILS,
         left,
     )?;
+    Ok(())
+}
+
+// It is told that there is no file, and that none of its calls failed.
+#[derive(Drop)]
+struct NoFiles {
+    faults: u64,
+}
+
+impl Files for NoFiles {
+    ghost held = { λ _. Some (λ _. None) };
+
+    ghost rest = { λ _. Some [] };
+
+    ghost faults = { λ f. f.faults };
+
+    fn begin(&mut self, _name: &str) -> Result<(), Failed> {
+        Err(Failed)
+    }
+
+    fn read(&mut self, _buffer: &mut [u8]) -> Result<usize, Failed> {
+        Ok(0)
+    }
+}
+
+#[test]
+fn a_missing_base_is_no_fault(rt: HostRuntime) -> Result<(), Fail> {
+    let alloc = rt.alloc();
+    let words = words_of(alloc, &WORDS)?;
+    let mut files = NoFiles { faults: 0 };
+    let mut out = MemorySink::make(alloc, Vec::new(alloc));
+    let mut err = MemorySink::make(alloc, Vec::new(alloc));
+    let status = run(alloc, &words, &mut files, &mut out, &mut err);
+    assert_eq!(rt; (status, files.faults), (Status::FileFault, 0));
     Ok(())
 }
 
