@@ -18,10 +18,17 @@
 //! - `Key` compares by the order, and then by the line, as the definition `key_cmp` does.
 //! - `Flag::number`, `LineStatus::number`: as the definitions number them. `Tuple::amount`: price times discount
 //!   (`value`), at most 999,999,990 (`within`).
+//! - `date_of`: the year, month and day with this number. `Tuple::pack`: the word of a tuple by the definition
+//!   `tuple_word`. `Tuple::unpack`: the tuple with this word (`some`), and none exactly where no tuple has it (`none`).
+//! - `DeltaList`, `RowList`: contracts see them as lists. `new`: the empty one. `push`: the item stands at the end (`ok`),
+//!   or the list is as before (`err`). `get`, `len`, `is_empty`, `as_slice`: what the list says. A delta takes 48 bytes.
+//! - `Steps::make`: a counter at 0. `Steps::tick`: it grew by exactly so much. It takes no bytes, and no program reads it.
+//! - `laws`: one delta over a table (`deltas`), histories and their parts (`histories`), rows after a history (`rows`),
+//!   live rows and their keys (`live_rows`), changes that come to a delta (`outcomes`), words of tuples (`words`).
 //!
 //! # Only tested
 //!
-//! - That `Table::push` and `Table::with_capacity` succeed where there is memory.
+//! - That `Table::push`, `Table::with_capacity` and `push` of the lists succeed where there is memory.
 //!
 //! # Not said
 //!
@@ -42,14 +49,21 @@
 #![tactic(auto)]
 
 mod date;
+mod delta;
 mod key;
+pub mod laws;
 mod predicate;
+mod row_list;
+mod steps;
 mod table;
 mod tuple;
 
-pub use date::day_of;
+pub use date::{date_of, day_of};
+pub use delta::{Delta, DeltaList};
 pub use key::Key;
 pub use predicate::{Predicate, Range};
+pub use row_list::RowList;
 pub use std::alloc::AllocError as Memory;
+pub use steps::Steps;
 pub use table::{ROW_LIMIT, Table, Totals};
 pub use tuple::{Flag, LineStatus, Tuple};
