@@ -1,2 +1,8 @@
 pub mod Years
 pub mod Matching
+pub mod Rows
+pub mod Histories
+pub mod LiveRows
+pub mod LiveHistories
+pub mod Outcomes
+pub mod Words

@@ -1,7 +1,12 @@
 pub mod Answer
+pub mod Change
 pub mod Day
+pub mod Delta
+pub mod History
 pub mod Key
+pub mod LiveRow
 pub mod Predicate
 pub mod StoredRow
 pub mod Table
 pub mod Tuple
+pub mod Word

@@ -1,6 +1,6 @@
 //! Days of the calendar as numbers from 1992-01-01.
-ghost use Rattle.std.specs.Prelude.{◌≡◌, ◌⊎◌, ◌+◌, ◌≤◌, IfSome, pos};
-ghost use Rattle.jiff_core.specs.Calendar.{day_count};
+ghost use Rattle.std.specs.Prelude.{◌≡◌, ◌⊎◌, ◌+◌, ◌<◌, ◌≤◌, IfSome, Some, pos};
+ghost use Rattle.jiff_core.specs.Calendar.{day_count, days_in_year};
 ghost use Rattle.cubit_base.specs.Day.{day_value};
 
 use jiff_core::civil::Date;
@@ -38,9 +38,67 @@ fn first_day_of(year: u16) -> u16
     }
 }
 
+/// The year, month and day with this number, from 1992-01-01 (0) to 1998-12-31 (2556).
+pub fn date_of(day: u16) -> (u16, u8, u8)
+    requires { day ≤ 2556 }
+    ensures { day_value result.0 result.1 result.2 ≡ Some day }
+{
+    let (year, first) = year_of(day);
+    let place = day - first + 1;
+    match Date::from_day_of_year(year as i16, place as i16) {
+        Ok(date) => (year, date.month, date.day),
+        Err(_) => unreachable!(),
+    }
+}
+
+// The year of a day, and the number of its 1 January.
+#[tactic(auto, using(crate::proofs::Years::year_starts))]
+fn year_of(day: u16) -> (u16, u16)
+    requires { day ≤ 2556 }
+    ensures within { (1992 ≤ result.0) × (result.0 ≤ 1998) }
+    ensures start { result.1 + day_count (pos 1992) 1 1 ≡ day_count (pos result.0) 1 1 }
+    ensures first { result.1 ≤ day }
+    ensures last { day < result.1 + days_in_year (pos result.0) }
+{
+    match day {
+        0..366 => (1992, 0),
+        366..731 => (1993, 366),
+        731..1096 => (1994, 731),
+        1096..1461 => (1995, 1096),
+        1461..1827 => (1996, 1461),
+        1827..2192 => (1997, 1827),
+        _ => (1998, 2192),
+    }
+}
+
 #[cfg(test)]
 mod tests {
     use super::*;
+
+    #[test]
+    fn dates(rt: HostRuntime) {
+        for (number, date) in [
+            (0, (1992, 1, 1)),
+            (30, (1992, 1, 31)),
+            (31, (1992, 2, 1)),
+            (59, (1992, 2, 29)),
+            (60, (1992, 3, 1)),
+            (365, (1992, 12, 31)),
+            (366, (1993, 1, 1)),
+            (424, (1993, 2, 28)),
+            (1461, (1996, 1, 1)),
+            (1520, (1996, 2, 29)),
+            (1521, (1996, 3, 1)),
+            (1533, (1996, 3, 13)),
+            (2556, (1998, 12, 31)),
+        ] {
+            let (year, month, day) = date;
+            assert_eq!(rt; day_of(year, month, day), Some(number));
+            if number <= 2556 {
+                assert_eq!(rt; date_of(number), date);
+            }
+        }
+    }
 
     #[test]
     fn days(rt: HostRuntime) {

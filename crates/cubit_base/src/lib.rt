@@ -1,30 +1,30 @@
-//! The rows of TPC-H's `lineitem` table as this product keeps them, and what a query over them means. A `Table` is a
-//! list of rows, each a `Key` and a `Tuple` or none. A `Predicate` selects tuples by a closed range for each column.
-//! docs/DEFINITIONS.md says the words of the contracts in plain language.
+//! The rows of TPC-H's `lineitem` table as this product keeps them, what a query over them means, and how they change.
+//! A `Table` is a list of rows, each a `Key` and a `Tuple` or none. A `Predicate` selects tuples by a closed range for
+//! each column. A `Delta` changes one row, and a history is a list of them.
 //!
 //! # Proved
 //!
-//! Contracts see a `Table` as the list of its rows, and a `Key` or a `Tuple` as a record of numbers that is always
-//! within its ranges (`IsKey`, `IsTuple`). Each call is safe and returns.
+//! Contracts see a `Table`, a `DeltaList` and a `RowList` as lists, and a `Key` or a `Tuple` as a record of numbers that
+//! is always within its ranges (`IsKey`, `IsTuple`).
 //!
-//! - `Table::new`, `Table::with_capacity`: the empty list. `Table::push`: the row stands at the end (`ok`), or the list
-//!   is as before (`err`). `Table::row`, `Table::is_empty`: what the list says. `Table::len`: its length (`value`), at
-//!   most `ROW_LIMIT` (`within`). A stored row takes 16 bytes.
+//! - `new` and `with_capacity` of the lists: the empty one. `push`: the item stands at the end (`ok`), or the list is as
+//!   before (`err`). `row`, `get`, `len`, `is_empty`, `as_slice`: what the list says. A row takes 16 bytes, a delta 48.
 //! - `Table::totals`: how many rows match (`count`), and the sum of price times discount over them (`sum`), as in the
-//!   definition `answer`. `Tuple::amount`: price times discount (`value`), at most 999,999,990 (`within`).
-//! - `Predicate::matches`, `Range::contains`: exactly the definitions. `Predicate::q6`: the ranges of TPC-H's query 6.
+//!   definition `answer`. `Predicate::matches`, `Range::contains`, `Tuple::amount`, `number` of flags and statuses:
+//!   the definitions. `Predicate::q6`: the ranges of TPC-H's query 6. `Key` compares by order and then by line.
 //! - `day_of`: the number of a day from 1992-01-01 to 1998-12-31 on the calendar of `jiff_core`, and none of any other
-//!   three numbers (`value`); it is at most 2556 (`within`).
-//! - `Key` compares by the order and then by the line (`key_cmp`). `Flag::number`, `LineStatus::number`: as defined.
+//!   three numbers. `date_of`: the day with a number. `Tuple::pack`, `Tuple::unpack`: a tuple's word, both ways.
+//! - `Steps` counts exactly what `tick` says, takes no bytes, and no program reads it.
+//! - `laws`: what follows for deltas, histories, rows, live rows, outcomes of changes, and words of tuples.
 //!
 //! # Only tested
 //!
-//! - That `Table::push` and `Table::with_capacity` find memory where there is some.
+//! That `push` and `with_capacity` find memory where there is some.
 //!
 //! # Not said
 //!
-//! - That no two rows have one key: a table takes any rows, and `HasDistinctKeys` is the word for those that differ.
-//! - How much memory a table takes beyond its rows, how long a call takes, and what `Debug` prints.
+//! That no two rows have one key: a table takes any rows, and `HasDistinctKeys` is the word for those that differ. How
+//! much memory a list takes beyond its items, and how long a call takes.
 //!
 //! # Example
 //!
@@ -34,19 +34,25 @@
 //! let tuple = Tuple { price, day, qty: 17, disc: 4, tax: 2, flag, status };
 //! table.push(Key { order: 1, line: 1 }, Some(tuple))?;
 //! let totals = table.totals(&Predicate::q6(1996, 5, 24));
-//! assert_eq!(rt; totals, Totals { count: 1, sum: 8_467_292 });
 //! ```
 #![tactic(auto)]
 
 mod date;
+mod delta;
 mod key;
+pub mod laws;
 mod predicate;
+mod row_list;
+mod steps;
 mod table;
 mod tuple;
 
-pub use date::day_of;
+pub use date::{date_of, day_of};
+pub use delta::{Delta, DeltaList};
 pub use key::Key;
 pub use predicate::{Predicate, Range};
+pub use row_list::RowList;
 pub use std::alloc::AllocError as Memory;
+pub use steps::Steps;
 pub use table::{ROW_LIMIT, Table, Totals};
 pub use tuple::{Flag, LineStatus, Tuple};

@@ -1,0 +1,5 @@
+use Rattle.cubit_base.proofs.Words.{tuple-from_word}
+use Rattle.cubit_base.proofs.laws.words.Goals as goal
+
+pub returns : goal.returns
+returns c = record { tuple = tuple-from_word }
