@@ -36,6 +36,10 @@ begins_1997 = day_count-early (pos 1997) 11996 1 1 refl (omega arith) (omega ari
 pub begins_1998 : day_count (pos 1998) 1 1 ≡ 4382180
 begins_1998 = day_count-early (pos 1998) 11997 1 1 refl (omega arith) (omega arith) (omega arith)
 
+-- so many days of the calendar lie between the first days of 1992 and of this year
+abbrev pub Begins : ℕ → ℕ → Type 0
+Begins year n = n + day_count (pos 1992) 1 1 ≡ day_count (pos year) 1 1
+
 -- the calendar's counts at the first days of these years
 pub ruleset year_starts = (
   begins_1992,
@@ -46,10 +50,6 @@ pub ruleset year_starts = (
   begins_1997,
   begins_1998,
 )
-
--- so many days of the calendar lie between the first days of 1992 and of this year
-abbrev pub Begins : ℕ → ℕ → Type 0
-Begins year n = n + day_count (pos 1992) 1 1 ≡ day_count (pos year) 1 1
 
 -- a day's number by its place in the year
 number_in_year : (year month day n : ℕ) → 1 ≤ day → Begins year n

@@ -49,6 +49,7 @@ fault_at limit lines place line =
 abbrev pub faults_of : ℕ → List (List ℕ) → List LinesFault
 faults_of limit lines = filter_map (λ p. fault_at limit lines p.0 p.1) (enumerate_from 0 lines)
 
+-- the first of the faults, or these rows where there is none
 abbrev pub first_fault_or : List LinesFault → List Row → Result (List Row) LinesFault
 first_fault_or [] rows = Ok rows
 first_fault_or (f ∷ faults) rows = Err f

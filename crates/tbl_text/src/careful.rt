@@ -149,22 +149,14 @@ fn bar_at(bytes: &[u8]) -> usize
 fn fields_value(fields: Fields<'_>) -> Result<(Key, Tuple), LineFault>
     ensures { result ≡ fields_value (listed fields.entry) }
 {
-    let order = within(
-        1,
-        4_294_967_295,
-        integer_of(fields.orderkey),
-        LineFault::Order,
-    )?;
+    let orderkey = integer_of(fields.orderkey);
+    let order = within(1, 4_294_967_295, orderkey, LineFault::Order)?;
     text(fields.partkey)?;
     text(fields.suppkey)?;
     let line = within(1, 7, integer_of(fields.linenumber), LineFault::Line)?;
     let qty = within(1, 50, quantity_of(fields.quantity), LineFault::Quantity)?;
-    let price = within(
-        0,
-        99_999_999,
-        money_of(fields.extendedprice),
-        LineFault::Price,
-    )?;
+    let extendedprice = money_of(fields.extendedprice);
+    let price = within(0, 99_999_999, extendedprice, LineFault::Price)?;
     let disc = within(0, 10, money_of(fields.discount), LineFault::Discount)?;
     let tax = within(0, 8, money_of(fields.tax), LineFault::Tax)?;
     let flag = flag_of(fields.returnflag).ok_or(LineFault::Flag)?;

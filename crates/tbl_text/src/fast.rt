@@ -212,8 +212,7 @@ impl<'a> LineCursor<'a> {
     // Text that is a few digits.
     #[inline(always)]
     fn digits(&mut self) -> Option<()>
-        ensures { IfSome result (λ _.
-            Takes is_text self.old.rest.now self.new.rest.now true) }
+        ensures { IfSome result (λ _. Takes is_text self.old.rest.now self.new.rest.now true) }
     {
         let count = few_digits(self.rest)?;
         self.field_of_len(count)?;

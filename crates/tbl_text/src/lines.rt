@@ -1,5 +1,5 @@
 //! The first line of some bytes.
-ghost use Rattle.std.specs.Prelude.{◌≡◌, ◌+◌, ◌<◌, ◌≤◌, ◌↔◌, ◌∷◌, [], length, min, take, drop, IsNone, IfSome};
+ghost use Rattle.std.specs.Prelude.{◌≡◌, ◌<◌, ◌≤◌, ◌↔◌, ◌∷◌, [], length, take, drop, IsNone, IfSome};
 ghost use Rattle.tbl_text.specs.Lines.{lines_of, line_end, line_len, next_line, without_cr};
 
 use memchr::memchr;
@@ -11,23 +11,6 @@ pub struct Line {
     pub len: usize,
     /// Where the next line begins.
     pub next: usize,
-}
-
-// The place of the first LF, or the number of bytes.
-fn line_end(bytes: &[u8]) -> usize
-    ensures { result ≡ line_end bytes.now }
-{
-    memchr(b'\n', bytes).unwrap_or(bytes.len())
-}
-
-// How much of a line is left without the one CR that may end it.
-fn len_without_cr(line: &[u8]) -> usize
-    ensures { result ≡ length (without_cr line.now) }
-{
-    match line.last() {
-        Some(b'\r') => line.len() - 1,
-        _ => line.len(),
-    }
 }
 
 /// The first line, or none where there are no bytes. LF ends a line, and a CR before it, or at the end of the bytes,
@@ -50,6 +33,23 @@ pub fn first_line(bytes: &[u8]) -> Option<Line>
         len: len_without_cr(&bytes[..end]),
         next: (end + 1).min(bytes.len()),
     })
+}
+
+// The place of the first LF, or the number of bytes.
+fn line_end(bytes: &[u8]) -> usize
+    ensures { result ≡ line_end bytes.now }
+{
+    memchr(b'\n', bytes).unwrap_or(bytes.len())
+}
+
+// How much of a line is left without the one CR that may end it.
+fn len_without_cr(line: &[u8]) -> usize
+    ensures { result ≡ length (without_cr line.now) }
+{
+    match line.last() {
+        Some(b'\r') => line.len() - 1,
+        _ => line.len(),
+    }
 }
 
 #[cfg(test)]
