@@ -4,11 +4,11 @@
 //!
 //! # Proved
 //!
-//! Contracts see a `Table`, a `DeltaList` and a `RowList` as lists, and a `Key` or a `Tuple` as a record of numbers that
-//! is always within its ranges (`IsKey`, `IsTuple`).
+//! Contracts see a `Table`, a `DeltaList` and a `RowList` as lists, and a `Key` or a `Tuple` as a record of numbers
+//! that is always within its ranges (`IsKey`, `IsTuple`).
 //!
-//! - `new` and `with_capacity` of the lists: the empty one. `push`: the item stands at the end (`ok`), or the list is as
-//!   before (`err`). `row`, `get`, `len`, `is_empty`, `as_slice`: what the list says. A row takes 16 bytes, a delta 48.
+//! - `new` and `with_capacity` of the lists: the empty one. `push`: the item stands at the end (`ok`), or the list is
+//!   as before (`err`). `row`, `get`, `len`, `is_empty`, `as_slice`: what it says. A row takes 16 bytes, a delta 48.
 //! - `Table::totals`: how many rows match (`count`), and the sum of price times discount over them (`sum`), as in the
 //!   definition `answer`. `Predicate::matches`, `Range::contains`, `Tuple::amount`, `number` of flags and statuses:
 //!   the definitions. `Predicate::q6`: the ranges of TPC-H's query 6. `Key` compares by order and then by line.
