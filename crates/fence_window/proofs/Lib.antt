@@ -1,3 +1,4 @@
 pub mod Fences
+pub mod Ors
 pub mod Places
 pub mod Windows

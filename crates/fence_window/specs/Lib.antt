@@ -1,2 +1,3 @@
+pub mod Ors
 pub mod Place
 pub mod Window

@@ -1,10 +1,11 @@
 //! Bitvectors with a fence for each page.
-ghost use Rattle.std.specs.Prelude.{◌≡◌, ◌<◌, IfOk, length, slice_get};
+ghost use Rattle.std.specs.Prelude.{ℕ, ◌≡◌, ◌+◌, ◌*◌, ◌<◌, IfOk, length, slice_get, slice_index, bit_or};
+ghost use Rattle.wah_words.specs.Group.{group_at};
 ghost use Rattle.fence_window.specs.Place.{HasFences};
 ghost use Rattle.fence_window.specs.Window.{IsWindow};
 
 use crate::Memory;
-use crate::place::{Place, advanced, write_groups};
+use crate::place::{Place, advanced, or_groups};
 use std::alloc::Global;
 use std::marker::Model;
 use wah_words::{GROUP_ROWS, Run, Wah, one_spelling};
@@ -58,10 +59,24 @@ impl Fenced {
     pub fn window(&self, page: u32, out: &mut [u32; 128])
         ensures { IsWindow self.now page out.new }
     {
+        out.fill(0);
         let words = self.wah.words();
         match self.fences.get(page as usize) {
-            Some(fence) => write_groups(words, *fence, out),
-            None => out.fill(0),
+            Some(fence) => or_groups(words, *fence, out),
+            None => {}
+        }
+    }
+
+    /// Puts the groups of 32 pages from the first on into the numbers, by or; past the last page nothing changes. It
+    /// takes no memory.
+    pub fn or_into(&self, first: u32, out: &mut [u32; 4096])
+        ensures { (i : ℕ) → i < 4096 → slice_index out.new i
+            ≡ bit_or (slice_index out.old i) (group_at self.now (128 * first + i)) }
+    {
+        let words = self.wah.words();
+        match self.fences.get(first as usize) {
+            Some(fence) => or_groups(words, *fence, out),
+            None => {}
         }
     }
 

@@ -1,9 +1,10 @@
 //! Places in words.
-ghost use Rattle.std.specs.Prelude.{ℕ, ◌≡◌, ◌+◌, ◌-◌, ◌++◌, ◌<◌, ◌≤◌, ◌^◌, take, drop, min, replicate, slice_index};
+ghost use Rattle.std.specs.Prelude.{◌≡◌, ◌+◌, ◌<◌, ◌≤◌, ◌^◌, drop, length, slice_index};
 ghost use Rattle.wah_words.specs.Word.{run_count, run_group};
 ghost use Rattle.fence_window.specs.Place.{groups_from};
+ghost use Rattle.fence_window.specs.Ors.{OrsFrom, OrsRun};
 
-use wah_words::{Run, is_literal};
+use wah_words::{Run, TRUE_FILL};
 
 /// A word, and how many groups of its run lie before the place.
 #[derive(Clone, Copy)]
@@ -36,38 +37,50 @@ pub(crate) fn advanced(words: &[u32], place: Place, groups: u32) -> Place
     }
 }
 
-/// Writes the groups from a place on, and 0 after the last.
-pub(crate) fn write_groups(words: &[u32], place: Place, out: &mut [u32; 128])
+/// Puts the groups from a place on into numbers, by or, as far as there is room; behind the last group nothing changes.
+#[inline(always)]
+pub(crate) fn or_groups(words: &[u32], place: Place, out: &mut [u32])
     requires { place.skipped ≤ run_count (slice_index words.now place.word) }
-    ensures { (i : ℕ) → i < 128 → slice_index out.new i ≡ slice_index (groups_from words.now place) i }
+    ensures { OrsFrom out.old out.new (groups_from words.now place) }
 {
-    let mut skipped = place.skipped;
-    let mut at = 0;
-    for word in place.word..words.len() {
-        at = write_word(out, at, words[word], skipped);
-        if at == 128 {
+    if place.word >= words.len() {
+        return;
+    }
+    let run = Run::of_word(words[place.word]);
+    let mut at = or_run(out, 0, run.group, run.count - place.skipped);
+    for word in place.word + 1..words.len() {
+        if at >= out.len() {
             return;
         }
-        skipped = 0;
+        at = or_word(out, at, words[word]);
     }
-    out[at..].fill(0);
 }
 
-// Writes the groups of a word after the skipped ones, as far as there is room, and gives the place after them.
+// Puts the groups of a word into the numbers from a place on, and gives the place behind them, which may lie past the
+// last number. A literal and a fill of false rows, as most words are, go without a branch.
 #[inline(always)]
-fn write_word(out: &mut [u32; 128], at: usize, word: u32, skipped: u32) -> usize
-    requires room { at < 128 }
-    requires inside { skipped ≤ run_count word }
-    ensures end { result ≡ min (at + (run_count word - skipped)) 128 }
-    ensures written { out.new ≡ take at out.old ++ replicate (result - at) (run_group word) ++ drop result out.old }
+fn or_word(out: &mut [u32], at: usize, word: u32) -> usize
+    requires { at < length out.old }
+    ensures end { result ≡ at + run_count word }
+    ensures part { OrsRun out.old out.new at (run_count word) (run_group word) }
 {
-    // A literal, as most words are, needs no look at its run.
-    if is_literal(word) && skipped == 0 {
-        out[at] = word;
-        return at + 1;
-    }
     let run = Run::of_word(word);
-    let end = (at + (run.count - skipped) as usize).min(128);
-    out[at..end].fill(run.group);
+    if word >= TRUE_FILL {
+        return or_run(out, at, run.group, run.count);
+    }
+    out[at] |= run.group;
+    at + run.count as usize
+}
+
+// The same for so many groups of one value.
+fn or_run(out: &mut [u32], at: usize, group: u32, count: u32) -> usize
+    requires { at ≤ length out.old }
+    ensures end { result ≡ at + count }
+    ensures part { OrsRun out.old out.new at count group }
+{
+    let end = at + count as usize;
+    for i in at..end.min(out.len()) {
+        out[i] |= group;
+    }
     end
 }

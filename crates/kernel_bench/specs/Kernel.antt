@@ -2,7 +2,7 @@
 use Rattle.std.specs.Prelude.{ℕ, ◌≡◌, Bool, ◌&&◌, ◌||◌, not, map, List, [], All, length, slice_index_or}
 use Rattle.wah_words.specs.Rows.{differs, pointwise, true_count}
 use Rattle.fence_window.specs.Window.{page_count}
-use Rattle.kernel_bench.specs.Pages.{IsXor, IsSelectedOf}
+use Rattle.kernel_bench.specs.Pages.{IsXor, IsSelectedOf, block_count}
 use Rattle.kernel_bench.specs.declared.kernel.Kernel.{Kernel}
 use Rattle.kernel_bench.specs.declared.kernel.Kernel.TheVariants.{And, Or, Xor, Not, Count, Window, Select}
 use Rattle.kernel_bench.specs.declared.kernel.Outcome.{Outcome}
@@ -36,4 +36,4 @@ Makes Count lists outcome = outcome ≡ Number (true_count (list_at lists 0))
 Makes Window lists outcome =
     (xor : ℕ) × (outcome ≡ Number xor) × IsXor (list_at lists 0) (page_count (length (list_at lists 0))) xor
 Makes Select lists outcome =
-    (total : ℕ) × (outcome ≡ Number total) × IsSelectedOf lists (page_count (length (list_at lists 0))) total
+    (total : ℕ) × (outcome ≡ Number total) × IsSelectedOf lists (block_count (length (list_at lists 0))) total

@@ -1,7 +1,6 @@
 //! The kernels.
 ghost use Rattle.std.specs.Prelude.{◌≡◌, IfOk, length};
-ghost use Rattle.kernel_bench.specs.Pages.{IsSelectedOf};
-ghost use Rattle.fence_window.specs.Window.{page_count};
+ghost use Rattle.kernel_bench.specs.Pages.{IsSelectedOf, block_count};
 ghost use Rattle.kernel_bench.specs.Names.{kernel_named};
 ghost use Rattle.kernel_bench.specs.Kernel.{AreOfLength, Makes, input_count, list_at};
 
@@ -95,7 +94,7 @@ impl Kernel {
 // How many of so many rows are selected by the bins of three columns.
 fn selected_of(inputs: &[Fenced], rows: u32) -> u64
     requires { length inputs.now ≡ input_count Kernel.Select }
-    ensures { IsSelectedOf inputs.now (page_count rows) result }
+    ensures { IsSelectedOf inputs.now (block_count rows) result }
 {
     let (quantities, rest) = inputs.split_at(QUANTITIES);
     let (months, discounts) = rest.split_at(MONTHS);

@@ -1,12 +1,19 @@
 //! Kernels that read their inputs page by page, as queries do.
-ghost use Rattle.std.specs.Prelude.{ℕ, ◌≡◌, ◌+◌, ◌*◌, ◌<◌, ◌≤◌, length, slice_index, bit_or, bit_and, sum_by, count_ones};
+ghost use Rattle.std.specs.Prelude.{ℕ, ◌≡◌, ◌+◌, ◌*◌, ◌^◌, ◌<◌, ◌≤◌, length, slice_index, bit_and, sum_by, count_ones};
 ghost use Rattle.fence_window.specs.Window.{page_count};
-ghost use Rattle.kernel_bench.specs.Pages.{xor_into, or_at, IsXor, IsSelected, IsSelectedIn};
+ghost use Rattle.kernel_bench.specs.Pages.{xor_into, or_at, block_count, IsXor, IsSelected, IsSelectedIn};
 
 use fence_window::{Fenced, PAGE_ROWS};
 
 // The groups of a page.
 type Page = [u32; 128];
+// The groups of 32 pages.
+type Block = [u32; 4096];
+
+const BLOCK_PAGES: u32 = 32;
+
+// The number of the definition.
+const _: () = prove!(BLOCK_PAGES == 32);
 
 /// The exclusive or of all groups, read page by page.
 pub(crate) fn xor_of(list: &Fenced) -> u32
@@ -31,71 +38,63 @@ fn xor_into(start: u32, page: &Page) -> u32
     xor
 }
 
-/// How many of so many rows are true in a bin of each of three columns.
+/// How many of so many rows are true in a bin of each of three columns, a column after the other for 32 pages at a time.
 pub(crate) fn selected(
     quantities: &[Fenced],
     months: &[Fenced],
     discounts: &[Fenced],
     rows: u32,
 ) -> u64
-    ensures { IsSelected quantities.now months.now discounts.now (page_count rows) result }
+    ensures { IsSelected quantities.now months.now discounts.now (block_count rows) result }
 {
     let mut total = 0;
-    for number in 0..rows.div_ceil(PAGE_ROWS) {
+    for number in 0..rows.div_ceil(PAGE_ROWS).div_ceil(BLOCK_PAGES) {
         total += u64::from(selected_in(quantities, months, discounts, number));
     }
     total
 }
 
-// How many rows of a page are true in a bin of each of three columns.
+// How many rows of a block are true in a bin of each of three columns.
 fn selected_in(quantities: &[Fenced], months: &[Fenced], discounts: &[Fenced], number: u32) -> u32
+    requires { number < 2 ^ 26 }
     ensures rows { IsSelectedIn quantities.now months.now discounts.now number result }
-    ensures few { result ≤ 4096 }
+    ensures few { result ≤ 131_072 }
 {
-    let mut page = [0; 128];
-    let mut other = [0; 128];
-    or_windows(quantities, number, &mut page);
-    or_windows(months, number, &mut other);
-    and_into(&mut page, &other);
-    or_windows(discounts, number, &mut other);
-    and_into(&mut page, &other);
-    true_rows(&page)
+    let mut block = [0; 4096];
+    let mut other = [0; 4096];
+    or_column(discounts, number, &mut block);
+    or_column(months, number, &mut other);
+    and_into(&mut block, &other);
+    or_column(quantities, number, &mut other);
+    and_into(&mut block, &other);
+    true_rows(&block)
 }
 
-// Writes the or of the windows of a page.
-fn or_windows(bins: &[Fenced], number: u32, page: &mut Page)
-    ensures { (i : ℕ) → i < 128 → slice_index page.new i ≡ or_at bins.now (128 * number + i) }
+// Writes the or of the bins of a column, for the pages of a block.
+fn or_column(bins: &[Fenced], number: u32, block: &mut Block)
+    requires { number < 2 ^ 26 }
+    ensures { (i : ℕ) → i < 4096 → slice_index block.new i ≡ or_at bins.now (4096 * number + i) }
 {
-    let mut window = [0; 128];
-    page.fill(0);
+    block.fill(0);
     for bin in bins {
-        bin.window(number, &mut window);
-        or_into(page, &window);
+        bin.or_into(BLOCK_PAGES * number, block);
     }
 }
 
-fn or_into(page: &mut Page, other: &Page)
-    ensures { (i : ℕ) → i < 128 → slice_index page.new i ≡ bit_or (slice_index page.old i) (slice_index other.now i) }
+fn and_into(block: &mut Block, other: &Block)
+    ensures { (i : ℕ) → i < 4096 → slice_index block.new i ≡ bit_and (slice_index block.old i) (slice_index other.now i) }
 {
-    for i in 0..128 {
-        page[i] |= other[i];
+    for i in 0..4096 {
+        block[i] &= other[i];
     }
 }
 
-fn and_into(page: &mut Page, other: &Page)
-    ensures { (i : ℕ) → i < 128 → slice_index page.new i ≡ bit_and (slice_index page.old i) (slice_index other.now i) }
-{
-    for i in 0..128 {
-        page[i] &= other[i];
-    }
-}
-
-fn true_rows(page: &Page) -> u32
-    ensures rows { result ≡ sum_by count_ones page.now }
-    ensures few { result ≤ 4096 }
+fn true_rows(block: &Block) -> u32
+    ensures rows { result ≡ sum_by count_ones block.now }
+    ensures few { result ≤ 131_072 }
 {
     let mut total = 0;
-    for group in page {
+    for group in block {
         total += group.count_ones();
     }
     total

@@ -11,12 +11,6 @@ use Rattle.wah_words.proofs.Pointwise.{pointwise-append}
 use Rattle.wah_words.proofs.Spelled.{length-group_rows, length-unpacked}
 use Rattle.wah_words.proofs.Words.{AreRuns-push, groups-cons, groups-split, run_count-literal, run_group-literal}
 
-AreMixed-tail : (group : ℕ) (block : List ℕ) → AreMixed (group ∷ block) → AreMixed block
-AreMixed-tail group block mixed = record {
-  some_true = λ k within. mixed.some_true (suc k) (omega arith);
-  some_false = λ k within. mixed.some_false (suc k) (omega arith);
-}
-
 -- literals are their own groups
 pub groups-literals : (words : List ℕ) → ((k : ℕ) → k < length words → get_or words k 0 < 2 ^ 31) → groups words ≡ words
 groups-literals [] low = refl
@@ -25,17 +19,6 @@ groups-literals (w ∷ words) low =
     groups-cons w words
     ∙ rw (run_count-literal w below, run_group-literal w below)
     (ap (λ rest. w ∷ rest) (groups-literals words (λ k within. low (suc k) (omega arith))))
-
--- runs with literals after them are runs
-pub AreRuns-literals : (words block : List ℕ) → AreRuns words → AreMixed block → AreRuns (words ++ block)
-AreRuns-literals words [] runs mixed = subst AreRuns (sym (append-nil words)) runs
-AreRuns-literals words (w ∷ block) runs mixed =
-    let below : w < 2 ^ 31 - 1 = mixed.some_false 0 (omega arith) in
-    let some : 0 < w = mixed.some_true 0 (omega arith) in
-    subst AreRuns (append_assoc words (w ∷ []) block)
-    (AreRuns-literals (words ++ w ∷ []) block
-    (AreRuns-push words w runs (record { literal = λ _. (some, below); fill = λ high. absurd (omega arith) })
-    (λ _ _ high. absurd (omega arith))) (AreMixed-tail w block mixed))
 
 -- literals more are as many groups more
 pub groups-push_literals : (words block : List ℕ) → AreMixed block → groups (words ++ block) ≡ groups words ++ block
@@ -76,11 +59,6 @@ continues-continues bit out a b next next_a next_b last last_a last_b first seco
   size = second.size ∙ first.size;
   longer = omega (arith, first.longer, second.longer);
 }
-
--- no step
-pub continues_same : (bit : Bool → Bool → Bool) (out a b : List ℕ) → length a ≡ length b
-    → Continues bit out a b out a b
-continues_same bit out a b same = record { rows = refl; same = same; size = refl; longer = omega arith }
 
 -- a block of literals on each side
 pub continues_block : (bit : Bool → Bool → Bool) (out a b block : List ℕ) (n : ℕ)

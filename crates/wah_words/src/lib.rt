@@ -48,6 +48,6 @@ mod run;
 mod wah;
 mod walk;
 
-pub use run::{GROUP_ROWS, Run, is_literal};
+pub use run::{GROUP_ROWS, Run, TRUE_FILL, is_literal};
 pub use std::alloc::AllocError as Memory;
 pub use wah::{Wah, one_spelling};

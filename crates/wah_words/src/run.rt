@@ -11,8 +11,8 @@ pub const GROUP_ROWS: u32 = 31;
 pub(crate) const ALL_TRUE: u32 = 0x7fff_ffff;
 /// The lowest fill; up to the next constant its rows are false.
 pub(crate) const FALSE_FILL: u32 = 0x8000_0000;
-/// The lowest fill of true rows.
-pub(crate) const TRUE_FILL: u32 = 0xc000_0000;
+/// The lowest fill of true rows: bit 30 of a fill is the value of its rows.
+pub const TRUE_FILL: u32 = 0xc000_0000;
 // The bit of a fill that is the value of its rows.
 const VALUE_BIT: u32 = 0x4000_0000;
 // The bits of a fill that count its groups.

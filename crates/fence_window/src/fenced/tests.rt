@@ -146,6 +146,20 @@ fn has_rows(rt: &impl Abort, fenced: &Fenced, page: u32, rows: &[bool]) {
     }
 }
 
+// The groups of 32 pages, put into numbers, have the rows beside what the numbers were.
+fn has_rows_within(rt: &impl Abort, fenced: &Fenced, first: u32, rows: &[bool]) {
+    let mut out = [0x8000_0001; 4096];
+    fenced.or_into(first, &mut out);
+    let mut rest = rows.iter().skip(first as usize * PAGE_ROWS as usize);
+    for group in out {
+        for bit in 0..32u32 {
+            let row = bit < 31 && rest.next().copied().unwrap_or(false);
+            let was = bit == 0 || bit == 31;
+            assert_eq!(rt; (group >> bit) & 1 == 1, row || was, "from page {first}");
+        }
+    }
+}
+
 #[test]
 fn windows_are_those_of_plain_lists(rt: HostRuntime) -> Result<(), Fail> {
     for count in (0..131).chain(3_960..3_975).chain(130_000..130_001) {
@@ -154,6 +168,19 @@ fn windows_are_those_of_plain_lists(rt: HostRuntime) -> Result<(), Fail> {
         let fenced = Fenced::make(rt.alloc(), Wah::from_rows(rt.alloc(), &rows)?)?;
         for page in 0..fenced.wah().len() / PAGE_ROWS + 2 {
             has_rows(&rt, &fenced, page, &rows);
+        }
+    }
+    Ok(())
+}
+
+#[test]
+fn ors_are_those_of_plain_lists(rt: HostRuntime) -> Result<(), Fail> {
+    for (count, firsts) in [(100, &[0, 1][..]), (130_000, &[0, 2, 33])] {
+        let rows = drawn_rows(rt.alloc(), count as u64, count)?;
+        assert!(rt; rows.len() < 1_000_000);
+        let fenced = Fenced::make(rt.alloc(), Wah::from_rows(rt.alloc(), &rows)?)?;
+        for first in firsts {
+            has_rows_within(&rt, &fenced, *first, &rows);
         }
     }
     Ok(())

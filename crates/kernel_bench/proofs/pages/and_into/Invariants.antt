@@ -4,5 +4,5 @@ use Rattle.kernel_bench.proofs.pages.and_into.Given as goal
 
 abbrev pub invariant-loop-i : goal.invariant-loop-i
 invariant-loop-i l =
-    ((k : ℕ) → k < l.i → slice_index l.page k ≡ bit_and (slice_index l.initial.page k) (slice_index l.other k))
-    × ((k : ℕ) → l.i ≤ k → slice_index l.page k ≡ slice_index l.initial.page k)
+    ((k : ℕ) → k < l.i → slice_index l.block k ≡ bit_and (slice_index l.initial.block k) (slice_index l.other k))
+    × ((k : ℕ) → l.i ≤ k → slice_index l.block k ≡ slice_index l.initial.block k)

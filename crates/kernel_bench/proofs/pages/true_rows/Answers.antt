@@ -5,10 +5,10 @@ use Rattle.kernel_bench.proofs.pages.true_rows.Goals as goal
 
 pub loop-group-preserved : goal.loop-group-preserved
 loop-group-preserved c =
-    let page = c.args.page.now in
+    let block = c.args.block.now in
     let i = c.loop-group.group-index in
-    let group = slice_index_or page i 0 in
-    let within : i < length page = omega (arith, c.told-page, c.loop-group-test.true) in (
-      ap (λ n. n + count_ones group) c.loop-group.invariant.0 ∙ sym (sum_by_more count_ones page i 0 within),
+    let group = slice_index_or block i 0 in
+    let within : i < length block = omega (arith, c.told-block, c.loop-group-test.true) in (
+      ap (λ n. n + count_ones group) c.loop-group.invariant.0 ∙ sym (sum_by_more count_ones block i 0 within),
       search rules,
     )

@@ -1,0 +1,10 @@
+use Rattle.std.proofs.Common.{ℕ, ◌≡◌, ◌<◌, ◌≤◌, slice_index}
+use Rattle.std.specs.Prelude.{bit_or}
+use Rattle.fence_window.proofs.place.or_run.Given as goal
+
+abbrev pub invariant-loop-i : goal.invariant-loop-i
+invariant-loop-i l = record {
+  before : (k : ℕ) → k < l.at → slice_index l.out k ≡ slice_index l.initial.out k;
+  done : (k : ℕ) → l.at ≤ k → k < l.i → slice_index l.out k ≡ bit_or (slice_index l.initial.out k) l.group;
+  left : (k : ℕ) → l.i ≤ k → slice_index l.out k ≡ slice_index l.initial.out k;
+}

@@ -1,7 +1,0 @@
-use Rattle.std.proofs.Common.{ℕ, ◌≡◌, ◌<◌, ◌+◌, ◌*◌, drop, slice_index}
-use Rattle.kernel_bench.specs.Pages.{or_at, or_into}
-use Rattle.kernel_bench.proofs.pages.or_windows.Given as goal
-
-abbrev pub invariant-loop-bin : goal.invariant-loop-bin
-invariant-loop-bin l = (i : ℕ) → i < 128
-    → or_at l.bins (128 * l.number + i) ≡ or_into (slice_index l.page i) (drop l.bin-index l.bins) (128 * l.number + i)
