@@ -38,7 +38,8 @@ fn xor_into(start: u32, page: &Page) -> u32
     xor
 }
 
-/// How many of so many rows are true in a bin of each of three columns, a column after the other for 32 pages at a time.
+/// How many of so many rows are true in a bin of each of three columns. It takes 32 pages at a time, a column after the
+/// other.
 pub(crate) fn selected(
     quantities: &[Fenced],
     months: &[Fenced],
@@ -82,7 +83,8 @@ fn or_column(bins: &[Fenced], number: u32, block: &mut Block)
 }
 
 fn and_into(block: &mut Block, other: &Block)
-    ensures { (i : ℕ) → i < 4096 → slice_index block.new i ≡ bit_and (slice_index block.old i) (slice_index other.now i) }
+    ensures { (i : ℕ) → i < 4096 →
+        slice_index block.new i ≡ bit_and (slice_index block.old i) (slice_index other.now i) }
 {
     for i in 0..4096 {
         block[i] &= other[i];
