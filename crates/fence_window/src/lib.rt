@@ -5,6 +5,7 @@
 //!
 //! - `Fenced::make`, `wah`: the list is that of the bitvector that was given, and so are its words.
 //! - `Fenced::window`: the 128 groups of a page, and 0 where the list has none, at every page number.
+//! - `Fenced::or_into`: 4,096 numbers become the or with the groups of 32 pages, and stay where the list has none.
 //! - `Fenced::get`: the truth value of a row.
 //! - No call but `make` takes memory, and every call returns.
 //!
