@@ -88,8 +88,13 @@ month-selected t (Some r) is may whole = ⊎_elim
 -- each tuple that matches is a candidate
 pub matches-candidate : (p : Predicate) (t : TupleValue) → IsTuple t → matches p t ≡ true → is_candidate p t ≡ true
 matches-candidate p t is holds =
-    let a = and_parts (selects p.ship t.day && selects p.disc t.disc && selects p.qty t.qty && selects p.flag (flag_number t.flag)) (selects p.status (status_number t.status)) holds in
-    let b = and_parts (selects p.ship t.day && selects p.disc t.disc && selects p.qty t.qty) (selects p.flag (flag_number t.flag)) a.0 in
+    let a =
+    and_parts
+    (selects p.ship t.day && selects p.disc t.disc && selects p.qty t.qty && selects p.flag (flag_number t.flag))
+    (selects p.status (status_number t.status)) holds in
+    let b =
+    and_parts (selects p.ship t.day && selects p.disc t.disc && selects p.qty t.qty)
+    (selects p.flag (flag_number t.flag)) a.0 in
     let c = and_parts (selects p.ship t.day && selects p.disc t.disc) (selects p.qty t.qty) b.0 in
     let d = and_parts (selects p.ship t.day) (selects p.disc t.disc) c.0 in
     and_from _ _
@@ -104,8 +109,13 @@ matches-candidate p t is holds =
 pub candidate-matches : (p : Predicate) (t : TupleValue) → IsTuple t → is_candidate p t ≡ true
     → is_in_part p t ≡ false → matches p t ≡ true
 candidate-matches p t is holds whole =
-    let a = and_parts (may_match Ship p.ship t && may_match Disc p.disc t && may_match Qty p.qty t && may_match Flag p.flag t) (may_match Status p.status t) holds in
-    let b = and_parts (may_match Ship p.ship t && may_match Disc p.disc t && may_match Qty p.qty t) (may_match Flag p.flag t) a.0 in
+    let a =
+    and_parts
+    (may_match Ship p.ship t && may_match Disc p.disc t && may_match Qty p.qty t && may_match Flag p.flag t)
+    (may_match Status p.status t) holds in
+    let b =
+    and_parts (may_match Ship p.ship t && may_match Disc p.disc t && may_match Qty p.qty t)
+    (may_match Flag p.flag t) a.0 in
     let c = and_parts (may_match Ship p.ship t && may_match Disc p.disc t) (may_match Qty p.qty t) b.0 in
     let d = and_parts (may_match Ship p.ship t) (may_match Disc p.disc t) c.0 in
     and_from _ _

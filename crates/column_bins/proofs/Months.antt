@@ -163,7 +163,8 @@ dated year month day n is = by (is_day year month day) refl is
     by true holds value =
         let p = and_parts (nat_le 1992 year && nat_le year 1998 && nat_le 1 month && nat_le month 12 && nat_le 1 day)
         (nat_le day (days_in_month (pos year) month)) holds in
-        let q = and_parts (nat_le 1992 year && nat_le year 1998 && nat_le 1 month && nat_le month 12) (nat_le 1 day) p.0 in
+        let q =
+        and_parts (nat_le 1992 year && nat_le year 1998 && nat_le 1 month && nat_le month 12) (nat_le 1 day) p.0 in
         let r = and_parts (nat_le 1992 year && nat_le year 1998 && nat_le 1 month) (nat_le month 12) q.0 in
         let s = and_parts (nat_le 1992 year && nat_le year 1998) (nat_le 1 month) r.0 in
         let t = and_parts (nat_le 1992 year) (nat_le year 1998) s.0 in

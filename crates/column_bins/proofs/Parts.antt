@@ -29,7 +29,9 @@ out-by r day out = ⊎_elim
 
 pub part-by : (r : Range) (b : ℕ) → is_met_in_part r b ≡ true → (day : ℕ) × (other : ℕ) × Parts r b day other
 part-by r b part =
-    let p = and_parts (is_met Ship r b) (any_below (past_values Ship) (λ day. not (in_range r day) && (month_of day == b))) part in
+    let p =
+    and_parts (is_met Ship r b)
+    (any_below (past_values Ship) (λ day. not (in_range r day) && (month_of day == b))) part in
     let m = met-by Ship r b p.0 in
     let w = any_below-true (past_values Ship) (λ day. not (in_range r day) && (month_of day == b)) p.1 in
     let q = and_parts (not (in_range r w.0)) (month_of w.0 == b) w.2 in (
@@ -59,7 +61,8 @@ some_part r = any_below (bin_count Ship) (is_met_in_part r)
 some-from : (r : Range) (b day other : ℕ) → Parts r b day other → some_part r ≡ true
 some-from r b day other p =
     let bounds = month_of-bounds other p.within in
-    any_below-from (bin_count Ship) (is_met_in_part r) b (omega (arith, bounds.within, p.bin)) (part-from r b day other p)
+    any_below-from (bin_count Ship) (is_met_in_part r) b (omega (arith, bounds.within, p.bin))
+    (part-from r b day other p)
 
 -- the range begins after a month's first day
 pub part-low : (r : Range) (hi place : ℕ) → hi ≡ min r.hi 2556 → r.lo ≤ hi
@@ -118,7 +121,8 @@ part-none r hi hi_is some begins ends = false_from_ne_true (some_part r) (λ par
         (λ next.
         let same : month_of day ≡ month_of other = is.met.bin ∙ sym is.bin in
         let m : month_of (hi + 1) ≡ month_of other = month_of-is (month_of other) (hi + 1) out_month.within
-        (omega (arith, rw same at in_month.start, is.met.high, is.met.past)) (omega (arith, out_month.end, is.within)) in
+        (omega (arith, rw same at in_month.start, is.met.high, is.met.past))
+        (omega (arith, out_month.end, is.within)) in
         omega (arith, rw same at in_month.start, next, ap month_start m, is.met.high, is.met.past))
         ends
 

@@ -6,9 +6,9 @@
 //! Each call is safe, returns, and takes no memory.
 //!
 //! - `bin_of`: the bin of the tuple's value in the column (`value`), which is one of the column's bins (`within`).
-//! - `plan`: a column has a stretch exactly where the predicate restricts it, and a bin lies in the stretch exactly where
-//!   some value of the column that the range has is of this bin (`ship`, `disc`, `qty`, `flag`, `status`). Tuples have to
-//!   be read exactly for a sum, and where the range has some days of a month, but not all (`pages`).
+//! - `plan`: a column has a stretch exactly where the predicate restricts it, and a bin lies in the stretch exactly
+//!   where some value of the column that the range has is of this bin (`ship`, `disc`, `qty`, `flag`, `status`). Tuples
+//!   have to be read exactly for a sum, and where the range has some days of a month, but not all (`pages`).
 //! - `laws::candidates`: each tuple that matches is a candidate (`all`), and each candidate whose month is met whole
 //!   matches (`exact`). `laws::months`: the month of a day is that of its date (`dated`).
 //!
