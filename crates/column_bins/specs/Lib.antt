@@ -1,0 +1,3 @@
+pub mod Column
+pub mod Month
+pub mod Plan
