@@ -1,8 +1,8 @@
 //! From a predicate to the bins that can match.
-ghost use Rattle.std.specs.Prelude.{◌≡◌, ◌+◌, ℕ};
+ghost use Rattle.std.specs.Prelude.{◌≡◌, ◌+◌, ℕ, true, false, None};
 ghost use Rattle.column_bins.specs.Column.{bin_count, least_value, past_values, any_below};
 ghost use Rattle.column_bins.specs.declared.column.Column.TheVariants.{Ship, Disc, Qty, Flag, Status};
-ghost use Rattle.column_bins.specs.Plan.{IsStretch, is_met, is_met_in_part, has_part, in_stretch, needs_pages};
+ghost use Rattle.column_bins.specs.Plan.{IsStretch, is_met, is_met_in_part, has_part, in_stretch, needs_pages, unit_count};
 
 use crate::column::{bin_at, month_and_day};
 use crate::{Column, Plan, Stretch};
@@ -208,8 +208,17 @@ mod tests {
         assert!(rt; !none.pages);
     }
 
+    // How many units a query needs that restricts nothing.
+    fn open_units()
+        ensures sum { unit_count (record { ship = None; disc = None; qty = None; flag = None; status = None })
+            true 3969 ≡ 3 }
+        ensures count { unit_count (record { ship = None; disc = None; qty = None; flag = None; status = None })
+            false 3969 ≡ 1 }
+    {}
+
     #[test]
     fn no_restriction(rt: HostRuntime) {
+        open_units();
         let open = Predicate {
             ship: None,
             disc: None,
