@@ -7,11 +7,14 @@ use crate::Memory;
 use cubit_base::{Key, Table, Tuple};
 use std::alloc::Global;
 
-/// Rows, and whether each row's key is above the one before it, as in the files that TPC-H's generator writes.
+/// The rows of the lines that were read.
 #[derive(Drop)]
 pub(crate) struct ReadRows {
+    /// The rows in the order of their lines.
     pub(crate) table: Table,
+    // The key of the last row.
     last: Option<Key>,
+    /// Whether each row's key is above the one before it, as in the files that TPC-H's generator writes.
     pub(crate) are_rising: bool,
     ghost ends: { last ≡ last_key table },
     ghost rising: { IsTrue are_rising ↔ HasRisingKeys table },
