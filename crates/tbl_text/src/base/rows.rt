@@ -42,14 +42,6 @@ impl ReadRows {
         })
     }
 
-    /// The number of rows.
-    pub(crate) fn len(&self) -> u32
-        ensures value { result ≡ length self.now.table }
-        ensures within { result ≤ ROW_LIMIT }
-    {
-        self.table.len()
-    }
-
     /// Puts the row of a line at the end.
     pub(crate) fn push(&mut self, key: Key, tuple: Tuple) -> Result<(), Memory>
         requires { length self.old.table < ROW_LIMIT }
@@ -60,12 +52,5 @@ impl ReadRows {
         self.are_rising &= is_above(key, self.last);
         self.last = Some(key);
         Ok(())
-    }
-
-    /// The table of the rows.
-    pub(crate) fn into_table(self) -> Table
-        ensures { result ≡ self.table }
-    {
-        self.table
     }
 }

@@ -20,5 +20,4 @@ returns-in-Faulty-clause-value c =
 pub returns-in-File-clause-value : goal.returns-in-File-clause-value
 returns-in-File-clause-value c =
     let distinct = rw c.in_default.is at c.in_ok-repeat.ensures in
-    rw c.into_table.ensures
-    (base_value-distinct c.args.row_limit c.args.bytes.now _ _ _ c.in_ok-reading.ensures.value distinct c.in-File.is)
+    base_value-distinct c.args.row_limit c.args.bytes.now _ _ _ c.in_ok-reading.ensures.value distinct c.in-File.is
