@@ -8,7 +8,9 @@ use crate::{Tuple, day_of};
 /// The numbers from `lo` to `hi`, both included; none where `lo` is above `hi`.
 #[derive(Clone, Copy, Debug, PartialEq, Eq)]
 pub struct Range {
+    /// The least number.
     pub lo: u16,
+    /// The greatest number.
     pub hi: u16,
 }
 

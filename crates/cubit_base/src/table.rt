@@ -7,7 +7,7 @@ use crate::{Flag, Key, LineStatus, Memory, Predicate, Tuple};
 use std::alloc::Global;
 use std::marker::Model;
 
-/// A row in 16 bytes. A quantity of 0, which no tuple has, says that there is no tuple.
+// A row in 16 bytes. A quantity of 0, which no tuple has, says that there is no tuple.
 #[derive(Drop)]
 struct StoredRow {
     price: u32,
@@ -111,10 +111,12 @@ impl Model for Table {
     ghost invariant = { λ t. length t.rows.items ≤ ROW_LIMIT };
 }
 
-/// How many rows matched, and the sum of price times discount over them in units of 0.0001.
+/// What a query adds up over the rows that match.
 #[derive(Clone, Copy, Debug, PartialEq, Eq)]
 pub struct Totals {
+    /// How many rows match.
     pub count: u32,
+    /// The sum of price times discount, in units of 0.0001.
     pub sum: u64,
 }
 

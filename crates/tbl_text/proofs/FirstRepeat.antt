@@ -10,7 +10,8 @@ use Rattle.cubit_base.specs.Key.{same_key}
 use Rattle.cubit_base.specs.Table.{Row, HasDistinctKeys}
 use Rattle.tbl_text.specs.Lines.{lines_of}
 use Rattle.tbl_text.specs.Base.{LinesFault, Twice, base_value, first_fault_or}
-use Rattle.tbl_text.specs.Reading.{read_from}
+use Rattle.tbl_text.specs.declared.base.ReadEnd.{ReadEnd}
+use Rattle.tbl_text.specs.Reading.{fault_of_end, read_from}
 use Rattle.tbl_text.specs.Repeats.{IsFirstRepeat}
 use Rattle.tbl_text.proofs.Keys.{same_key-same, same_key-other}
 use Rattle.tbl_text.proofs.FirstFault.{base_value-read, repeat_at, value_behind}
@@ -120,19 +121,22 @@ value-repeat rows stop d earlier later repeat =
     λ n is. let at : n ≡ later = omega arith in rw at here in
     first_fault-at (λ p. repeat_at rows p.0 p.1) 0 rows later d twice (option_to_list stop) rows none within some
 
--- the value of a file, of which these rows and this fault were read, where the rows' keys differ
-pub base_value-distinct : (limit : ℕ) (bytes : List ℕ) (rows : List Row) (stop : Option LinesFault)
-    → (rows, stop) ≡ read_from limit 0 (lines_of bytes) → HasDistinctKeys rows
-    → base_value limit bytes ≡ first_fault_or (option_to_list stop) rows
-base_value-distinct limit bytes rows stop is distinct =
-    base_value-read limit bytes ∙ ap (value_behind [] 0) (sym is) ∙ value-distinct rows stop distinct
-
--- and where they do not
-pub base_value-repeat : (limit : ℕ) (bytes : List ℕ) (rows : List Row) (stop : Option LinesFault) (earlier later : ℕ)
-    → (rows, stop) ≡ read_from limit 0 (lines_of bytes) → IsFirstRepeat rows earlier later
-    → base_value limit bytes ≡ Err (Twice (later + 1) (earlier + 1))
-base_value-repeat limit bytes [] stop earlier later is repeat = absurd (omega (arith, repeat.within))
-base_value-repeat limit bytes (row ∷ rows) stop earlier later is repeat =
+-- the value of a file, of which these rows were read up to a known end, where the rows' keys differ
+pub base_value-distinct : (limit : ℕ) (bytes : List ℕ) (rows : List Row) (end known : ReadEnd)
+    → (rows, fault_of_end end) ≡ read_from limit 0 (lines_of bytes) → HasDistinctKeys rows → end ≡ known
+    → base_value limit bytes ≡ first_fault_or (option_to_list (fault_of_end known)) rows
+base_value-distinct limit bytes rows end known is distinct ends =
     base_value-read limit bytes
     ∙ ap (value_behind [] 0) (sym is)
-    ∙ value-repeat (row ∷ rows) stop row earlier later repeat
+    ∙ value-distinct rows (fault_of_end end) distinct
+    ∙ ap (λ e. first_fault_or (option_to_list (fault_of_end e)) rows) ends
+
+-- and where they do not, whatever the end
+pub base_value-repeat : (limit : ℕ) (bytes : List ℕ) (rows : List Row) (end : ReadEnd) (earlier later : ℕ)
+    → (rows, fault_of_end end) ≡ read_from limit 0 (lines_of bytes) → IsFirstRepeat rows earlier later
+    → base_value limit bytes ≡ Err (Twice (later + 1) (earlier + 1))
+base_value-repeat limit bytes [] end earlier later is repeat = absurd (omega (arith, repeat.within))
+base_value-repeat limit bytes (row ∷ rows) end earlier later is repeat =
+    base_value-read limit bytes
+    ∙ ap (value_behind [] 0) (sym is)
+    ∙ value-repeat (row ∷ rows) (fault_of_end end) row earlier later repeat

@@ -73,7 +73,7 @@ pub fn base_of(alloc: Global, bytes: &[u8], row_limit: u32) -> Result<Table, Bas
         return Err(BaseFault::Twice(repeat.later + 1, repeat.earlier + 1));
     }
     match reading.end {
-        ReadEnd::File => Ok(reading.rows.into_table()),
+        ReadEnd::File => Ok(reading.rows.table),
         ReadEnd::TooMany(line) => Err(BaseFault::TooMany(line)),
         ReadEnd::Faulty(line, fault) => Err(BaseFault::Line(line, fault)),
     }
@@ -91,7 +91,7 @@ fn read_lines(alloc: Global, bytes: &[u8], row_limit: u32) -> Result<Reading, Me
     let mut rows = ReadRows::with_capacity(alloc, expected_rows)?;
     let mut rest = bytes;
     while !rest.is_empty() {
-        let number = rows.len() + 1;
+        let number = rows.table.len() + 1;
         if number > row_limit {
             let end = ReadEnd::TooMany(number);
             return Ok(Reading { rows, end });

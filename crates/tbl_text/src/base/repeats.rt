@@ -8,10 +8,12 @@ use crate::Memory;
 use cubit_base::{Key, Table};
 use std::alloc::Global;
 
-/// The numbers of two rows with one key, from 0.
+/// Two rows with one key.
 #[derive(Clone, Copy, Debug, PartialEq, Eq)]
 pub(crate) struct Repeat {
+    /// The number of the earlier row, from 0.
     pub(crate) earlier: u32,
+    /// The number of the later row.
     pub(crate) later: u32,
 }
 

@@ -7,11 +7,14 @@ use crate::Memory;
 use cubit_base::{Key, Table, Tuple};
 use std::alloc::Global;
 
-/// Rows, and whether each row's key is above the one before it, as in the files that TPC-H's generator writes.
+/// The rows of the lines that were read.
 #[derive(Drop)]
 pub(crate) struct ReadRows {
+    /// The rows in the order of their lines.
     pub(crate) table: Table,
+    // The key of the last row.
     last: Option<Key>,
+    /// Whether each row's key is above the one before it, as in the files that TPC-H's generator writes.
     pub(crate) are_rising: bool,
     ghost ends: { last ≡ last_key table },
     ghost rising: { IsTrue are_rising ↔ HasRisingKeys table },
@@ -39,14 +42,6 @@ impl ReadRows {
         })
     }
 
-    /// The number of rows.
-    pub(crate) fn len(&self) -> u32
-        ensures value { result ≡ length self.now.table }
-        ensures within { result ≤ ROW_LIMIT }
-    {
-        self.table.len()
-    }
-
     /// Puts the row of a line at the end.
     pub(crate) fn push(&mut self, key: Key, tuple: Tuple) -> Result<(), Memory>
         requires { length self.old.table < ROW_LIMIT }
@@ -57,12 +52,5 @@ impl ReadRows {
         self.are_rising &= is_above(key, self.last);
         self.last = Some(key);
         Ok(())
-    }
-
-    /// The table of the rows.
-    pub(crate) fn into_table(self) -> Table
-        ensures { result ≡ self.table }
-    {
-        self.table
     }
 }
