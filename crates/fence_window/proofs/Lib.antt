@@ -1,3 +1,4 @@
+pub mod Blocks
 pub mod Fences
 pub mod Ors
 pub mod Places

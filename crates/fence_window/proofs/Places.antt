@@ -4,7 +4,8 @@ use Rattle.std.proofs.lemmas.List.{drop-drop, drop_at, drop_all, drop_more, leng
 use Rattle.std.proofs.Math.Seq.{drop-nil}
 use Rattle.wah_words.specs.Word.{groups, run_group, run_count, word_groups}
 
-groups-cons : (word : ℕ) (words : List ℕ)
+-- the groups of a word and of those after it
+pub groups-cons : (word : ℕ) (words : List ℕ)
     → groups (word ∷ words) ≡ replicate (run_count word) (run_group word) ++ groups words
 unfolding word_groups
 groups-cons word words = refl

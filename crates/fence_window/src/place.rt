@@ -1,10 +1,10 @@
 //! Places in words.
-ghost use Rattle.std.specs.Prelude.{◌≡◌, ◌+◌, ◌<◌, ◌≤◌, ◌^◌, drop, length, slice_index};
-ghost use Rattle.wah_words.specs.Word.{run_count, run_group};
+ghost use Rattle.std.specs.Prelude.{◌≡◌, ◌+◌, ◌<◌, ◌≤◌, ◌^◌, IsTrue, All, drop, length, replicate, slice_index};
+ghost use Rattle.wah_words.specs.Word.{groups, run_count, run_group, word_groups};
 ghost use Rattle.fence_window.specs.Place.{groups_from};
-ghost use Rattle.fence_window.specs.Ors.{OrsFrom, OrsRun};
+ghost use Rattle.fence_window.specs.Ors.{OrsFrom, OrsAt};
 
-use wah_words::{Run, TRUE_FILL};
+use wah_words::{Run, TRUE_FILL, is_literal};
 
 /// A word, and how many groups of its run lie before the place.
 #[derive(Clone, Copy)]
@@ -37,6 +37,9 @@ pub(crate) fn advanced(words: &[u32], place: Place, groups: u32) -> Place
     }
 }
 
+// The words that are taken together where all are literals.
+const BLOCK_WORDS: usize = 8;
+
 /// Puts the groups from a place on into numbers, by or, as far as there is room; behind the last group nothing changes.
 #[inline(always)]
 pub(crate) fn or_groups(words: &[u32], place: Place, out: &mut [u32])
@@ -47,36 +50,104 @@ pub(crate) fn or_groups(words: &[u32], place: Place, out: &mut [u32])
         return;
     }
     let run = Run::of_word(words[place.word]);
-    let mut at = or_run(out, 0, run.group, run.count - place.skipped);
-    for word in place.word + 1..words.len() {
+    let at = or_run(out, 0, run.group, run.count - place.skipped);
+    or_words(out, at, &words[place.word + 1..]);
+}
+
+// The same for the groups of words, from a number on.
+#[inline(always)]
+fn or_words(out: &mut [u32], from: usize, words: &[u32])
+    ensures { OrsAt out.old out.new from (groups words.now) }
+{
+    let mut at = from;
+    let (blocks, rest) = words.as_chunks::<BLOCK_WORDS>();
+    for block in blocks {
         if at >= out.len() {
             return;
         }
-        at = or_word(out, at, words[word]);
+        at = or_block(out, at, block);
+    }
+    if at < out.len() {
+        or_each(out, at, rest);
     }
 }
 
-// Puts the groups of a word into the numbers from a place on, and gives the place behind them, which may lie past the
-// last number. A literal and a fill of false rows, as most words are, go without a branch.
+// The same for the words of a block, and gives the place behind their groups.
+#[inline(always)]
+fn or_block(out: &mut [u32], at: usize, block: &[u32; BLOCK_WORDS]) -> usize
+    requires { at < length out.old }
+    ensures end { result ≡ at + length (groups block.now) }
+    ensures part { OrsAt out.old out.new at (groups block.now) }
+{
+    if at + BLOCK_WORDS <= out.len() && are_literals(block) {
+        or_literals(out, at, block);
+        return at + BLOCK_WORDS;
+    }
+    or_each(out, at, block)
+}
+
+// Whether each word of a block is one group as it stands.
+#[inline(always)]
+fn are_literals(block: &[u32; BLOCK_WORDS]) -> bool
+    ensures { IsTrue result → All (λ word. word < 2 ^ 31) block.now }
+{
+    let mut all = true;
+    for word in block {
+        all &= is_literal(*word);
+    }
+    all
+}
+
+// The groups of a block, as far as there are numbers: the same for all.
+#[inline(always)]
+fn or_literals(out: &mut [u32], at: usize, block: &[u32; BLOCK_WORDS])
+    requires { at + 8 ≤ length out.old }
+    ensures { OrsAt out.old out.new at block.now }
+{
+    for i in 0..BLOCK_WORDS {
+        out[at + i] |= block[i];
+    }
+}
+
+// The same for a few words, one after another.
+#[inline(always)]
+fn or_each(out: &mut [u32], from: usize, words: &[u32]) -> usize
+    requires near { from < length out.old }
+    requires few { length words.now ≤ 8 }
+    ensures end { result ≡ from + length (groups words.now) }
+    ensures part { OrsAt out.old out.new from (groups words.now) }
+{
+    let mut at = from;
+    for word in words {
+        at = or_word(out, at, *word);
+    }
+    at
+}
+
+// The same for one word. A literal and a fill of false rows, as most words are, go without a branch but that for the
+// end of the numbers.
 #[inline(always)]
 fn or_word(out: &mut [u32], at: usize, word: u32) -> usize
-    requires { at < length out.old }
+    requires { at < 2 ^ 63 }
     ensures end { result ≡ at + run_count word }
-    ensures part { OrsRun out.old out.new at (run_count word) (run_group word) }
+    ensures near { result ≤ at + 2 ^ 30 }
+    ensures part { OrsAt out.old out.new at (word_groups word) }
 {
     let run = Run::of_word(word);
     if word >= TRUE_FILL {
         return or_run(out, at, run.group, run.count);
     }
-    out[at] |= run.group;
+    if at < out.len() {
+        out[at] |= run.group;
+    }
     at + run.count as usize
 }
 
 // The same for so many groups of one value.
 fn or_run(out: &mut [u32], at: usize, group: u32, count: u32) -> usize
-    requires { at ≤ length out.old }
+    requires { at < 2 ^ 63 }
     ensures end { result ≡ at + count }
-    ensures part { OrsRun out.old out.new at count group }
+    ensures part { OrsAt out.old out.new at (replicate count group) }
 {
     let end = at + count as usize;
     for i in at..end.min(out.len()) {
