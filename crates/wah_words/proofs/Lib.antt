@@ -1,12 +1,16 @@
 pub mod Bits
 pub mod Blocks
 pub mod Counted
+pub mod Fronts
 pub mod Groups
 pub mod Marks
+pub mod Moves
 pub mod Pointwise
 pub mod Reading
 pub mod Results
+pub mod Runs
 pub mod Spelled
+pub mod Toggled
 pub mod Turned
 pub mod Unique
 pub mod Words

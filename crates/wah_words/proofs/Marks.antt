@@ -42,7 +42,8 @@ get_or-low_bits (suc count) n zero within = let lowest : n / 2 ^ 0 % 2 ≡ n % 2
 get_or-low_bits (suc count) n (suc place) within = get_or-low_bits count (n / 2) place (omega arith)
     ∙ ap (λ bit. eqb bit 1) (sym (bit_at-suc n place))
 
-get_or-group_rows : (group place : ℕ) → place < 31 → get_or (group_rows group) place false ≡ eqb (bit_at group place) 1
+-- a row of a group
+pub get_or-group_rows : (group place : ℕ) → place < 31 → get_or (group_rows group) place false ≡ eqb (bit_at group place) 1
 unfolding group_rows
 get_or-group_rows group place within = get_or-low_bits 31 group place within
 
@@ -99,15 +100,15 @@ pub record IsMarked (places : List ℕ) (i : ℕ) (out : List ℕ) (group index 
   pub rows : (row : ℕ) → IsTrue (get_or (unpacked out ++ group_rows group) row false) ↔ Contains (take i places) row
 
 -- the group under way lies at or before the next place
-pub index-le : (places : List ℕ) (i : ℕ) (out : List ℕ) (group index : ℕ) → IsStrictlyIncreasing places
-    → IsMarked places i out group index → i < length places → index ≤ get_or places i 0 / 31
-index-le places i out group index rising marked within =
+pub index-le : (places : List ℕ) (i index : ℕ) → IsStrictlyIncreasing places → (i ≡ 0 → index ≡ 0)
+    → (0 < i → index ≡ get_or places (i - 1) 0 / 31) → i < length places → index ≤ get_or places i 0 / 31
+index-le places i index rising first last within =
     elim (cases_lt 0 i) [
       | inl some ↦
           let next : i - 1 + 1 ≡ i = omega arith in
           let above : get_or places (i - 1) 0 < get_or places i 0 = rw next at (rising (i - 1) (omega arith)) in
-          omega (arith, marked.last some)
-      | inr none ↦ omega (arith, (marked.first (omega arith)).0)
+          omega (arith, last some)
+      | inr none ↦ omega (arith, first (omega arith))
     ]
 
 -- a place is the new one, or one before it

@@ -48,7 +48,8 @@ groups_within (w ∷ words) =
 
 -- ---- words by their groups
 
-AreRuns-tail : (w : ℕ) (words : List ℕ) → AreRuns (w ∷ words) → AreRuns words
+-- words without the first
+pub AreRuns-tail : (w : ℕ) (words : List ℕ) → AreRuns (w ∷ words) → AreRuns words
 AreRuns-tail w words runs = record {
   literals = All-tail IsMixedLiteral w words runs.literals;
   fills = All-tail IsCountedFill w words runs.fills;

@@ -1,6 +1,9 @@
 pub mod Canonical
 pub mod Cursor
+pub mod Front
 pub mod Group
+pub mod Moves
 pub mod Rows
+pub mod Source
 pub mod Walk
 pub mod Word

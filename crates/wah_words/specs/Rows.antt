@@ -1,6 +1,6 @@
 -- Operations on lists of truth values.
-use Rattle.std.specs.Prelude.{ℕ, ◌-◌, Bool, false, not, List, ◌++◌, length, take, replicate, map, count_by, if◌then◌else◌}
-use Rattle.std.specs.List.{zip}
+use Rattle.std.specs.Prelude.{ℕ, ◌-◌, ◌≡◌, ◌==◌, Bool, false, not, List, ◌++◌, length, take, replicate, map, slice_index_or, count_by, if◌then◌else◌}
+use Rattle.std.specs.List.{zip, list_any}
 
 -- one of the two is true, and not the other
 abbrev pub differs : Bool → Bool → Bool
@@ -17,3 +17,11 @@ true_count list = count_by (λ row. row) list
 -- the list with false from that row on
 abbrev pub cleared : ℕ → List Bool → List Bool
 cleared rows list = take rows list ++ replicate (length list - rows) false
+
+-- whether the row is one of the places
+abbrev pub has : List ℕ → ℕ → Bool
+has places row = list_any (λ place. place == row) places
+
+-- the rows at the places are turned, and no others; past its end a list is false
+pub record IsToggled (old : List Bool) (places : List ℕ) (new : List Bool) : Type 0 where
+  pub each : (row : ℕ) → slice_index_or new row false ≡ differs (slice_index_or old row false) (has places row)

@@ -143,6 +143,20 @@ impl Builder {
         self.push_run(Run { group, count: 1 })
     }
 
+    /// Puts the groups of words at the end. Of the words the first alone may join the run before it.
+    pub(crate) fn push_words(&mut self, words: &[u32]) -> Result<(), Memory>
+        requires runs { AreRuns words.now }
+        requires room { length self.old + length (groups words.now) < 2 ^ 30 }
+        ensures { OnOk result (self.new ≡ self.old ++ groups words.now) }
+    {
+        let Some((first, rest)) = words.split_first() else {
+            return Ok(());
+        };
+        self.push_run(Run::of_word(*first))?;
+        self.words.extend_from_slice(rest)?;
+        Ok(())
+    }
+
     /// The words.
     pub(crate) fn into_words(self) -> Vec<u32>
         ensures runs { AreRuns result.items }

@@ -42,9 +42,12 @@ mod builder;
 mod complement;
 mod count;
 mod cursor;
+mod front;
 mod operation;
 mod places;
 mod run;
+mod source;
+mod toggle;
 mod wah;
 mod walk;
 

@@ -4,7 +4,7 @@ ghost use Rattle.std.specs.List.Sorted.{IsStrictlyIncreasing};
 ghost use Rattle.wah_words.specs.Group.{Packs, group_at, group_count as groups_for, unpacked};
 ghost use Rattle.wah_words.specs.Word.{groups as groups_of};
 ghost use Rattle.wah_words.specs.Canonical.{AreWords, IsCanonical, Spells};
-ghost use Rattle.wah_words.specs.Rows.{differs, pointwise, true_count};
+ghost use Rattle.wah_words.specs.Rows.{IsToggled, differs, pointwise, true_count};
 
 use crate::builder::Builder;
 use crate::complement::complement;
@@ -12,6 +12,7 @@ use crate::count::true_rows;
 use crate::operation::{And, Operation, Or, Xor};
 use crate::places::groups_of_places;
 use crate::run::{GROUP_ROWS, group_count, group_of, is_canonical};
+use crate::toggle::toggled;
 use crate::{Memory, walk};
 use std::alloc::Global;
 use std::marker::Model;
@@ -140,6 +141,19 @@ impl Wah {
         let more = group_count(rows) - group_count(self.rows);
         let mut groups = Builder::from_slice(alloc, &self.words)?;
         groups.push_false(more)?;
+        Ok(Wah::of_groups(groups, rows))
+    }
+
+    /// The list with false after it up to `rows`, and then with the rows at these places turned. It takes a copy of
+    /// the words, and a step for each place.
+    pub fn toggled(&self, alloc: Global, places: &[u32], rows: u32) -> Result<Wah, Memory>
+        requires rising { IsStrictlyIncreasing places.now }
+        requires below { All (λ place. place < rows) places.now }
+        requires longer { length self.now ≤ rows }
+        ensures length { IfOk result (λ wah. length wah ≡ rows) }
+        ensures rows { IfOk result (λ wah. IsToggled self.now places.now wah) }
+    {
+        let groups = toggled(alloc, &self.words, self.rows, places, rows)?;
         Ok(Wah::of_groups(groups, rows))
     }
 

@@ -1,10 +1,14 @@
 //! Words against the tables of the form, and operations against those of plain lists.
+ghost use Rattle.std.specs.Prelude.{IsTrue};
+ghost use Rattle.std.specs.List.Sorted.{IsStrictlyIncreasing};
+
 use super::*;
 use std::process::Abort;
 use std::test::Fail;
 
 mod algebra;
 mod plain_lists;
+mod toggles;
 mod words;
 
 // Rows given by runs of one value.
@@ -50,4 +54,16 @@ fn made_rows(alloc: Global, state: &mut u64, count: usize) -> Result<Vec<bool>, 
         rows.push(value)?;
     }
     Ok(rows)
+}
+
+// Whether each place lies below the next.
+fn is_rising(places: &[u32]) -> bool
+    ensures { IsTrue result → IsStrictlyIncreasing places.now }
+{
+    for i in 1..places.len() {
+        if places[i] <= places[i - 1] {
+            return false;
+        }
+    }
+    true
 }

@@ -13,8 +13,7 @@ loop-place-preserved c =
     let bit = get_or places i 0 % 31 in
     let marked = c.loop-place.invariant in
     let before =
-    index-le places i c.loop-place.out c.loop-place.group c.loop-place.index c.requires.rising marked
-    (omega arith) in
+    index-le places i c.loop-place.index c.requires.rising (λ none. (marked.first none).0) marked.last (omega arith) in
     let one : 1 * 2 ^ bit % 2 ^ 32 < 2 ^ 31 =
     omega (arith, one_shl bit 32 (omega arith), pow_below bit 31 (omega arith)) in
     marked_more places i c.loop-place.out c.advance.new.out c.loop-place.group c.in_ok-group.group c.loop-place.index

@@ -1,8 +1,5 @@
 //! Drawn lists, short and long, against plain lists of truth values.
-ghost use Rattle.std.specs.Prelude.{IsTrue};
-ghost use Rattle.std.specs.List.Sorted.{IsStrictlyIncreasing};
-
-use super::{made_rows, wah_of_rows, wah_of_words};
+use super::{is_rising, made_rows, wah_of_rows, wah_of_words};
 use crate::{Memory, Wah};
 use std::alloc::Global;
 use std::process::Abort;
@@ -92,18 +89,6 @@ fn a_long_list_is_extended(rt: HostRuntime) -> Result<(), Fail> {
         longer.words()
     );
     Ok(())
-}
-
-// Whether each place lies below the next.
-fn is_rising(places: &[u32]) -> bool
-    ensures { IsTrue result → IsStrictlyIncreasing places.now }
-{
-    for i in 1..places.len() {
-        if places[i] <= places[i - 1] {
-            return false;
-        }
-    }
-    true
 }
 
 fn true_places(alloc: Global, rows: &[bool]) -> Result<Vec<u32>, Memory> {
