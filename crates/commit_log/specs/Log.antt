@@ -53,6 +53,10 @@ MayFollow terms log front delta =
 abbrev pub between : ℕ → ℕ → List Delta → List Delta
 between from to log = drop from (take to log)
 
+-- the delta in this place, counted from 0, has the key
+abbrev pub HasKey : List Delta → KeyValue → ℕ → Type 0
+HasKey log key place = (delta : Delta) × (slice_get log place ≡ Some delta) × (delta.key ≡ key)
+
 -- no delta from one length of the log to another has the key
 abbrev pub HasNone : List Delta → KeyValue → ℕ → ℕ → Type 0
 HasNone log key from to =

@@ -3,7 +3,11 @@
 
 mod front;
 mod handle;
+mod orders;
+mod serial;
+mod stored;
 
 pub use cubit_base::Memory;
 pub use front::{AppendStop, Cursor, Front};
 pub use handle::CommitLog;
+pub use serial::{SerialDate, SerialLog, Setup};
