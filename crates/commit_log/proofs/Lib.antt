@@ -1,3 +1,4 @@
 pub mod Adding
 pub mod Appending
 pub mod Searching
+pub mod Stretches

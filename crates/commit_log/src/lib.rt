@@ -3,6 +3,7 @@
 
 mod front;
 mod handle;
+pub mod laws;
 mod orders;
 mod serial;
 mod stored;
