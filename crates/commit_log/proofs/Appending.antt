@@ -1,8 +1,11 @@
 -- What an append comes to.
-use Rattle.std.proofs.Common.{◌≡◌, ℕ, ◌+◌, ◌<◌, ◌-◌, Bool, true, cond, eqb, List, [], ◌∷◌, ◌++◌, length, map, filter, sym, refl, ap, ◌∙◌, arith, eq-eqb}
+use Rattle.std.proofs.Common.{◌≡◌, ℕ, ◌+◌, ◌<◌, ◌-◌, Bool, true, cond, eqb, List, [], ◌∷◌, ◌++◌, length, map, filter, take, sym, refl, ap, ◌∙◌, arith, eq-eqb}
 use Rattle.std.specs.List.{enumerate_from}
-use Rattle.std.proofs.lemmas.List.{map-append}
+use Rattle.std.proofs.lemmas.List.{map-append, take_all}
+use Rattle.std.proofs.lemmas.List.Sums.{fold-append}
 use Rattle.std.proofs.lemmas.List.Elements.{filter-append}
+use Rattle.cubit_base.specs.Delta.{applied}
+use Rattle.cubit_base.specs.History.{after}
 use Rattle.cubit_base.specs.declared.delta.Delta.{Delta}
 use Rattle.commit_log.specs.declared.front.Front.{Front}
 use Rattle.commit_log.specs.Log.{Terms, IsWhole}
@@ -44,3 +47,16 @@ appended terms v w at front d room len is by whole = record {
       ∙ ap (λ n. places_by 0 v.seen ++ n ∷ []) (sym len);
   whole = whole;
 }
+
+-- the table after the new front
+pub table-appended : (terms : Terms) (handle later : Handle) (at front : Front) (d : Delta) →
+    Appended terms handle at d later front →
+    after terms.base (take front.len later.seen) ≡ applied (after terms.base (take at.len handle.seen)) d
+table-appended terms handle later at front d a =
+    let all : take front.len later.seen ≡ handle.seen ++ d ∷ [] =
+    ap (λ n. take n later.seen) a.whole.whole ∙ take_all (length later.seen) later.seen (omega arith)
+    ∙ ap (λ (h : Handle). h.seen) a.is in
+    let before : take at.len handle.seen ≡ handle.seen =
+    ap (λ n. take n handle.seen) a.last ∙ take_all (length handle.seen) handle.seen (omega arith) in
+    ap (after terms.base) all ∙ fold-append applied terms.base handle.seen (d ∷ [])
+    ∙ ap (λ (h : List Delta). applied (after terms.base h) d) (sym before)

@@ -23,7 +23,7 @@ between-next log from to delta le at =
     let within = slice_get_within log to delta at in
     let long = length-take-le to log (omega arith) in
     ap (drop from)
-      (take_more log to delta within ∙ ap (λ (x : Delta). take to log ++ x ∷ []) (get_or_from_slice_get log to delta delta at))
+    (take_more log to delta within ∙ ap (λ (x : Delta). take to log ++ x ∷ []) (get_or_from_slice_get log to delta delta at))
     ∙ drop-append-le from (take to log) (delta ∷ []) (omega arith)
 
 -- a prefix and the stretch behind it
@@ -34,9 +34,9 @@ between-parts log from to le =
 other-key : (a b : KeyValue) → a ≢ b → same_key a b ≡ false
 other-key a b other = ⊎_elim
     (λ order. ⊎_elim
-      (λ line. absurd (other (λ i. record { order = order.1 i; line = line.1 i })))
-      (λ line. λ i. order.0 i && line.0 i)
-      (eqb_tells a.line b.line))
+    (λ line. absurd (other (λ i. record { order = order.1 i; line = line.1 i })))
+    (λ line. λ i. order.0 i && line.0 i)
+    (eqb_tells a.line b.line))
     (λ order. ap (λ x. x && eqb a.line b.line) order.0)
     (eqb_tells a.order b.order)
 
@@ -64,11 +64,11 @@ none-last log key from start (suc n) found le long none is =
     let at : slice_get log (start + n) ≡ Some x = slice_get-get_or log (start + n) nothing (omega arith) in
     let other : same_key x.key key ≡ false = other-key x.key key (none (start + n) x (omega arith) (omega arith) at) in
     let so_far = none-last log key from start n found le (omega arith)
-      (λ place d lo hi. none place d lo (omega arith)) is in
+    (λ place d lo hi. none place d lo (omega arith)) is in
     ap (λ k. last_delta (is_of_key key) (between from k log)) e
     ∙ ap (last_delta (is_of_key key)) (between-next log from (start + n) x (omega arith) at)
     ∙ fold-append (λ (last : Option Delta) (d : Delta). cond (is_of_key key d) (Some d) last) None
-      (between from (start + n) log) (x ∷ [])
+    (between from (start + n) log) (x ∷ [])
     ∙ ap (λ b. cond b (Some x) (last_delta (is_of_key key) (between from (start + n) log))) other
     ∙ so_far
 
@@ -81,19 +81,19 @@ latest-is terms log key from to None le long none =
     let e : from + (to - from) ≡ to = omega arith in
     ap (λ k. last_delta (is_of_key key) (between from k log)) (sym e)
     ∙ none-last log key from from (to - from) None (omega arith) (omega arith)
-      (subst (HasNone log key from) (sym e) none)
-      (ap (last_delta (is_of_key key)) (between-empty log from))
+    (subst (HasNone log key from) (sym e) none)
+    (ap (last_delta (is_of_key key)) (between-empty log from))
 latest-is terms log key from to (Some entry) le long last =
     let a = last.after in let b = last.before in
     let e : entry.seq + (to - entry.seq) ≡ to = omega arith in
     let up : entry.seq ≡ (entry.seq - 1) + 1 = omega arith in
     ap (λ k. last_delta (is_of_key key) (between from k log)) (sym e)
     ∙ none-last log key from entry.seq (to - entry.seq) (Some entry.delta) (omega arith) (omega arith)
-      (subst (HasNone log key entry.seq) (sym e) last.last)
-      (ap (λ k. last_delta (is_of_key key) (between from k log)) up
-        ∙ ap (last_delta (is_of_key key))
-          (between-next log from (entry.seq - 1) entry.delta (omega arith) last.is_entry.delta)
-        ∙ fold-append (λ (last : Option Delta) (d : Delta). cond (is_of_key key d) (Some d) last) None
-          (between from (entry.seq - 1) log) (entry.delta ∷ [])
-        ∙ ap (λ b. cond b (Some entry.delta) (last_delta (is_of_key key) (between from (entry.seq - 1) log)))
-          (same-key entry.delta.key key last.has_key))
+    (subst (HasNone log key entry.seq) (sym e) last.last)
+    (ap (λ k. last_delta (is_of_key key) (between from k log)) up
+    ∙ ap (last_delta (is_of_key key))
+    (between-next log from (entry.seq - 1) entry.delta (omega arith) last.is_entry.delta)
+    ∙ fold-append (λ (last : Option Delta) (d : Delta). cond (is_of_key key d) (Some d) last) None
+    (between from (entry.seq - 1) log) (entry.delta ∷ [])
+    ∙ ap (λ b. cond b (Some entry.delta) (last_delta (is_of_key key) (between from (entry.seq - 1) log)))
+    (same-key entry.delta.key key last.has_key))

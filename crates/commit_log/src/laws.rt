@@ -3,7 +3,8 @@
 ghost use Rattle.std.specs.Prelude.{◌≡◌, ℕ, ◌+◌, ◌≤◌, List, [], ◌∷◌, ◌++◌, length, take, slice_get, Option, Some};
 ghost use Rattle.std.specs.Option.{option_map};
 ghost use Rattle.cubit_base.specs.Key.{KeyValue};
-ghost use Rattle.cubit_base.specs.History.{is_of_key, last_delta};
+ghost use Rattle.cubit_base.specs.Delta.{applied};
+ghost use Rattle.cubit_base.specs.History.{after, is_of_key, last_delta};
 ghost use Rattle.cubit_base.specs.declared.delta.Delta.{Delta};
 ghost use Rattle.cubit_base.specs.declared.entry.Entry.{Entry};
 ghost use Rattle.commit_log.specs.Log.{Terms, IsLog, Stands, IsPlace, between, IsLatest};
@@ -34,8 +35,15 @@ pub fn handles()
     ensures more { (handle later : Handle) → SeesMore handle later → Grows handle later }
     ensures look { (handle later : Handle) → SeesMore (with_look handle) later → Grows handle later }
     ensures walk { (handle later : Handle) → later ≡ with_walk handle → Grows handle later }
-    ensures append { (terms : Terms) (handle later : Handle) (at front : Front) (delta : Delta) →
+{}
+
+/// Appended deltas.
+pub fn appends()
+    ensures grows { (terms : Terms) (handle later : Handle) (at front : Front) (delta : Delta) →
         Appended terms handle at delta later front → Grows handle later }
+    ensures table { (terms : Terms) (handle later : Handle) (at front : Front) (delta : Delta) →
+        Appended terms handle at delta later front →
+        after terms.base (take front.len later.seen) ≡ applied (after terms.base (take at.len handle.seen)) delta }
 {}
 
 /// The deltas between two lengths of a log.

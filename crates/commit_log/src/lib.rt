@@ -12,3 +12,6 @@ pub use cubit_base::Memory;
 pub use front::{AppendStop, Cursor, Front};
 pub use handle::CommitLog;
 pub use serial::{SerialDate, SerialLog, Setup};
+
+#[cfg(test)]
+mod tests;
