@@ -1,11 +1,14 @@
 -- A log of one caller.
-use Rattle.std.specs.Prelude.{◌≡◌, ℕ, ◌+◌, ◌≤◌, List, length, map, take, slice_get, Some, None}
+use Rattle.std.specs.Prelude.{◌≡◌, ℕ, ◌+◌, ◌≤◌, List, length, map, take, slice_get, Some, None, Bool, true, false, Result, Ok, Err}
 use Rattle.cubit_base.specs.Table.{Row}
 use Rattle.cubit_base.specs.History.{rows_after}
 use Rattle.cubit_base.specs.declared.delta.Delta.{Delta}
 use Rattle.cubit_base.specs.declared.entry.Limits.{Limits}
 use Rattle.commit_log.specs.Log.{Terms, IsLog}
 use Rattle.commit_log.specs.Handle.{Handle}
+use Rattle.commit_log.specs.declared.front.Front.{Front}
+use Rattle.commit_log.specs.declared.front.AppendStop.{AppendStop}
+use Rattle.commit_log.specs.declared.front.AppendStop.TheVariants.{Full, Late}
 use Rattle.commit_log.specs.Logged.{Logged, delta_of}
 
 -- its deltas, how many more there may be, and how many entries its walks gave
@@ -47,3 +50,9 @@ pub record IsSerial (terms : Terms) (entries : List Logged) (orders : List ℕ) 
 -- so many more items fit
 pub record HasRoom (items capacity spare : ℕ) : Type 0 where
   pub room : items + spare ≤ capacity
+
+-- the answer is that another delta stands behind the front
+abbrev pub is_late : Result Front AppendStop → Bool
+is_late (Ok front) = false
+is_late (Err Full) = false
+is_late (Err (Late front)) = true

@@ -1,11 +1,12 @@
 //! A log of one caller, who keeps its deltas in order.
-ghost use Rattle.std.specs.Prelude.{◌≡◌, ◌+◌, ◌-◌, ◌≤◌, ◌<◌, List, [], ◌∷◌, ◌++◌, length, IfOk, IfSome, IfNone, if◌then◌else◌};
+ghost use Rattle.std.specs.Prelude.{◌≡◌, ◌+◌, ◌-◌, ◌≤◌, ◌<◌, List, [], ◌∷◌, ◌++◌, length, take, IfOk, IfSome, IfNone, IsTrue, ◌↔◌, OnErr, All, if◌then◌else◌};
 ghost use Rattle.cubit_base.specs.Table.{Row};
 ghost use Rattle.cubit_base.specs.Delta.{is_insert, IsLawful};
 ghost use Rattle.cubit_base.specs.History.{after, LimitsFit};
 ghost use Rattle.cubit_base.specs.declared.entry.Limits.{Limits as LimitsValue};
-ghost use Rattle.commit_log.specs.Log.{IsWhole, IsLog, IsEntry, HasKey, HasNone};
-ghost use Rattle.commit_log.specs.Serial.{SerialValue, serial_terms, serial_handle};
+ghost use Rattle.commit_log.specs.Log.{IsLog, Stands, IsWhole, IsEntry, MayFollow, HasKey, HasNone};
+ghost use Rattle.commit_log.specs.Handle.{Begins, Appends, append_steps, RisesWithin};
+ghost use Rattle.commit_log.specs.Serial.{SerialValue, is_late, serial_terms, serial_handle};
 
 use crate::orders::last_end;
 use crate::stored::StoredDelta;
@@ -43,7 +44,8 @@ pub struct SerialLog<S: Setup> {
 
 impl<S: Setup> Model for SerialLog<S> {
     ghost use Rattle.std.specs.Prelude.{vec_len, vec_capacity};
-    ghost use Rattle.commit_log.specs.Serial.{SerialValue, serial_terms, deltas_of, IsSerial, HasRoom};
+    ghost use Rattle.commit_log.specs.Handle.{Begins, Appends, append_steps, RisesWithin};
+    ghost use Rattle.commit_log.specs.Serial.{SerialValue, is_late, serial_terms, deltas_of, IsSerial, HasRoom};
 
     ghost Value = { SerialValue };
 
@@ -170,7 +172,12 @@ impl<S: Setup> CommitLog for SerialLog<S> {
 
     ghost named = { λ log date. take date.len log.seen };
 
-    fn front<N: Ledger>(&mut self, steps: &mut Steps<N>) -> Front {
+    fn front<N: Ledger>(&mut self, steps: &mut Steps<N>) -> Front
+        ensures whole { IsWhole (serial_terms S.base S.limits) self.new.seen result }
+        ensures log { IsLog (serial_terms S.base S.limits) self.new.seen }
+        ensures same { self.new ≡ self.old }
+        ensures steps { steps.new ≡ steps.old + 3 }
+    {
         steps.tick(3);
         self.whole()
     }
@@ -187,7 +194,12 @@ impl<S: Setup> CommitLog for SerialLog<S> {
         self.spare
     }
 
-    fn author(&self) -> u8 {
+    /// 0, which every delta here has.
+    fn author(&self) -> u8
+        ensures zero { result ≡ 0 }
+        ensures own { All (λ d. d.author ≡ 0) self.now.seen }
+    {
+        let _ = &self.entries;
         0
     }
 
@@ -207,7 +219,13 @@ impl<S: Setup> CommitLog for SerialLog<S> {
         SerialDate { len: date.len }
     }
 
-    fn meet<N: Ledger>(&mut self, date: SerialDate, steps: &mut Steps<N>) {
+    fn meet<N: Ledger>(&mut self, date: SerialDate, steps: &mut Steps<N>)
+        requires { date.len ≤ length self.old.seen }
+        ensures met { Begins (take date.len self.old.seen) self.new.seen }
+        ensures log { IsLog (serial_terms S.base S.limits) self.new.seen }
+        ensures same { self.new ≡ self.old }
+        ensures steps { steps.new ≡ steps.old + 2 }
+    {
         steps.tick(2);
         let _ = &self.entries;
         let _ = date.len;
@@ -255,7 +273,18 @@ impl<S: Setup> CommitLog for SerialLog<S> {
         at: &Front,
         delta: &Delta,
         steps: &mut Steps<N>,
-    ) -> Result<Front, AppendStop> {
+    ) -> Result<Front, AppendStop>
+        requires at { Stands (serial_terms S.base S.limits) self.old.seen at.now }
+        requires lawful { MayFollow (serial_terms S.base S.limits) self.old.seen at.now delta.now }
+        requires author { delta.now.author ≡ 0 }
+        requires spare { 1 ≤ self.old.spare }
+        ensures append { Appends (serial_terms S.base S.limits) (serial_handle self.old) at.now delta.now
+            (serial_handle self.new) result }
+        ensures log { IsLog (serial_terms S.base S.limits) self.new.seen }
+        ensures stop { OnErr result (self.new ≡ self.old) }
+        ensures late { IsTrue (is_late result) ↔ (at.now.len < length self.old.seen) }
+        ensures steps { RisesWithin (append_steps result) steps.old steps.new }
+    {
         if at.len == self.limits.log_limit {
             return Err(AppendStop::Full);
         }
