@@ -1,5 +1,5 @@
 -- One more delta of a log of one caller.
-use Rattle.std.proofs.Common.{◌≡◌, ℕ, ◌+◌, ◌-◌, ◌≤◌, ◌<◌, Bool, true, cond, eqb, List, [], ◌∷◌, ◌++◌, length, map, take, slice_get, Some, sym, refl, ap, ◌∙◌, subst, arith, length-append}
+use Rattle.std.proofs.Common.{◌≡◌, ℕ, ◌+◌, ◌<◌, List, [], ◌∷◌, ◌++◌, length, take, slice_get, Some, sym, refl, ap, ◌∙◌, subst, arith, length-append}
 use mathlib.Core.Logic.{dite}
 use native.Mathlib.Decide.{dec_lt}
 use Rattle.std.proofs.lemmas.List.{map-append, length-map, take-append-le, take_all, get_or_append_left, get_or_at}
@@ -7,10 +7,9 @@ use Rattle.std.proofs.lemmas.Option.{slice_get_within, slice_get-get_or, get_or_
 use Rattle.cubit_base.specs.declared.delta.Delta.{Delta}
 use Rattle.cubit_base.specs.declared.entry.Limits.{Limits}
 use Rattle.cubit_base.specs.History.{IsHistory, rows_after}
-use Rattle.commit_log.specs.declared.front.Front.{Front}
-use Rattle.commit_log.specs.Log.{Terms, IsLog, IsWhole}
+use Rattle.commit_log.specs.Log.{Terms, IsLog}
 use Rattle.commit_log.specs.Logged.{Logged, delta_of, logged_of}
-use Rattle.commit_log.specs.Serial.{SerialValue, deltas_of, orders_of, serial_handle, IsSerial}
+use Rattle.commit_log.specs.Serial.{deltas_of, IsSerial}
 
 slice-shorter : {A : Type 0} (xs ys : List A) (k : ℕ) (x : A) → k < length xs → slice_get (xs ++ ys) k ≡ Some x →
     slice_get xs k ≡ Some x

@@ -1,5 +1,5 @@
 -- What an append comes to.
-use Rattle.std.proofs.Common.{◌≡◌, ℕ, ◌+◌, ◌<◌, ◌-◌, Bool, true, cond, eqb, List, [], ◌∷◌, ◌++◌, length, map, filter, take, sym, refl, ap, ◌∙◌, arith, eq-eqb}
+use Rattle.std.proofs.Common.{◌≡◌, ℕ, ◌+◌, ◌<◌, ◌-◌, Bool, cond, eqb, List, [], ◌∷◌, ◌++◌, length, map, filter, take, sym, ap, ◌∙◌, arith, eq-eqb}
 use Rattle.std.specs.List.{enumerate_from}
 use Rattle.std.proofs.lemmas.List.{map-append, take_all}
 use Rattle.std.proofs.lemmas.List.Sums.{fold-append}

@@ -1,5 +1,5 @@
 -- The deltas between two lengths of a log.
-use Rattle.std.proofs.Common.{◌≡◌, ◌≢◌, ℕ, zero, suc, ◌+◌, ◌-◌, ◌≤◌, ◌<◌, Bool, true, false, ◌&&◌, cond, eqb, List, [], ◌∷◌, ◌++◌, length, take, drop, fold, get_or, slice_get, Option, Some, None, sym, ap, ◌∙◌, subst, arith, ⊎_elim}
+use Rattle.std.proofs.Common.{◌≡◌, ◌≢◌, ℕ, zero, suc, ◌+◌, ◌-◌, ◌≤◌, true, false, ◌&&◌, cond, eqb, List, [], ◌∷◌, ◌++◌, length, take, drop, get_or, slice_get, Option, Some, None, sym, ap, ◌∙◌, subst, arith, ⊎_elim}
 use Rattle.std.specs.Option.{option_map}
 use Rattle.std.proofs.lemmas.Grind.{common_steps}
 use Rattle.std.proofs.lemmas.Bool.Decides.{eqb_tells}
@@ -7,10 +7,10 @@ use Rattle.std.proofs.lemmas.List.{take-append-drop, take-take, take_more, drop-
 use Rattle.std.proofs.lemmas.List.Sums.{fold-append}
 use Rattle.std.proofs.lemmas.Option.{slice_get_within, slice_get-get_or, get_or_from_slice_get}
 use Rattle.cubit_base.specs.Key.{KeyValue, same_key}
-use Rattle.cubit_base.specs.History.{is_of_key, last_or, last_delta}
+use Rattle.cubit_base.specs.History.{is_of_key, last_delta}
 use Rattle.cubit_base.specs.declared.delta.Delta.{Delta}
 use Rattle.cubit_base.specs.declared.entry.Entry.{Entry}
-use Rattle.commit_log.specs.Log.{Terms, between, HasNone, IsLast, IsLatest}
+use Rattle.commit_log.specs.Log.{Terms, between, HasNone, IsLatest}
 
 -- no delta from a length to itself
 between-empty : (log : List Delta) (n : ℕ) → between n n log ≡ []

@@ -62,6 +62,13 @@ abbrev pub HasNone : List Delta → KeyValue → ℕ → ℕ → Type 0
 HasNone log key from to =
     (place : ℕ) (delta : Delta) → from ≤ place → place < to → slice_get log place ≡ Some delta → delta.key ≢ key
 
+-- this place is the last from one length of the log to another whose delta has the key
+pub record IsLastPlace (log : List Delta) (key : KeyValue) (from to place : ℕ) : Type 0 where
+  pub after : from ≤ place
+  pub before : place < to
+  pub has_key : HasKey log key place
+  pub last : HasNone log key (place + 1) to
+
 -- the entry is that of the last delta with the key from one length of the log to another
 pub record IsLast (terms : Terms) (log : List Delta) (key : KeyValue) (from to : ℕ) (entry : Entry) : Type 0 where
   pub after : from < entry.seq

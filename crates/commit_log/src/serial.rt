@@ -4,7 +4,7 @@ ghost use Rattle.cubit_base.specs.Table.{Row};
 ghost use Rattle.cubit_base.specs.Delta.{is_insert, IsLawful};
 ghost use Rattle.cubit_base.specs.History.{after, LimitsFit};
 ghost use Rattle.cubit_base.specs.declared.entry.Limits.{Limits as LimitsValue};
-ghost use Rattle.commit_log.specs.Log.{IsLog, Stands, IsWhole, IsEntry, MayFollow, HasKey, HasNone};
+ghost use Rattle.commit_log.specs.Log.{IsLog, Stands, IsWhole, IsEntry, MayFollow, HasKey, HasNone, IsLastPlace};
 ghost use Rattle.commit_log.specs.Handle.{Begins, Appends, append_steps, RisesWithin};
 ghost use Rattle.commit_log.specs.Serial.{SerialValue, is_late, serial_terms, serial_handle};
 
@@ -44,14 +44,14 @@ pub struct SerialLog<S: Setup> {
 
 impl<S: Setup> Model for SerialLog<S> {
     ghost use Rattle.std.specs.Prelude.{vec_len, vec_capacity};
-    ghost use Rattle.commit_log.specs.Handle.{Begins, Appends, append_steps, RisesWithin};
-    ghost use Rattle.commit_log.specs.Serial.{SerialValue, is_late, serial_terms, deltas_of, IsSerial, HasRoom};
+    ghost use Rattle.commit_log.specs.Serial.{SerialValue, serial_terms, deltas_of, IsSerial, HasRoom};
 
     ghost Value = { SerialValue };
 
     ghost view = { λ s. record { seen = deltas_of s.entries.items; spare = s.spare; walked = s.walked } };
 
-    ghost invariant = { λ s. IsSerial (serial_terms S.base S.limits) s.entries.items s.orders.items s.base_rows s.rows s.limits
+    ghost invariant = { λ s.
+        IsSerial (serial_terms S.base S.limits) s.entries.items s.orders.items s.base_rows s.rows s.limits
         × HasRoom (vec_len s.entries) (vec_capacity s.entries) s.spare
         × HasRoom (vec_len s.orders) (vec_capacity s.orders) s.spare };
 }
@@ -130,22 +130,41 @@ impl<S: Setup> SerialLog<S> {
         stored.entry(place + 1)
     }
 
+    // Where the last deltas up to a place that cannot have the key begin; the first place at the least.
+    fn end_of(&self, key: &Key, from: u32, to: u32) -> u32
+        requires order { from ≤ to }
+        requires within { to ≤ length self.now.seen }
+        ensures first { from ≤ result }
+        ensures within { result ≤ to }
+        ensures none { HasNone self.now.seen key.now result to }
+    {
+        last_end(&self.orders, key.order, from as usize, to as usize) as u32
+    }
+
+    fn has_key(&self, key: &Key, place: u32) -> bool
+        requires { place < length self.now.seen }
+        ensures { IsTrue result ↔ HasKey self.now.seen key.now place }
+    {
+        let stored = &self.entries[place as usize];
+        stored.has_key(key)
+    }
+
     // The place of the last delta with this key from one length to another.
     fn last_place(&self, key: &Key, from: u32, to: u32) -> Option<u32>
         requires order { from ≤ to }
         requires within { to ≤ length self.now.seen }
-        ensures some { IfSome result (λ place. (from ≤ place) × (place < to) × HasKey self.now.seen key.now place × HasNone self.now.seen key.now (place + 1) to) }
+        ensures some { IfSome result (IsLastPlace self.now.seen key.now from to) }
         ensures none { IfNone result (HasNone self.now.seen key.now from to) }
     {
-        let mut to = to as usize;
-        while (from as usize) < to {
-            let end = last_end(&self.orders, key.order, from as usize, to);
-            if end == from as usize {
-                break;
+        let mut end = to;
+        while from < end {
+            let last = self.end_of(key, from, end);
+            if last == from {
+                return None;
             }
-            to = end - 1;
-            if self.entries[to].has_line(key.line) {
-                return Some(to as u32);
+            end = last - 1;
+            if self.has_key(key, end) {
+                return Some(end);
             }
         }
         None

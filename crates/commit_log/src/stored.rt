@@ -142,10 +142,10 @@ impl StoredDelta {
         self.order
     }
 
-    /// Whether its key has this line.
-    pub(crate) fn has_line(&self, line: u8) -> bool
-        ensures { IsTrue result ↔ (self.now.key.line ≡ line) }
+    /// Whether it has this key.
+    pub(crate) fn has_key(&self, key: &Key) -> bool
+        ensures { IsTrue result ↔ (self.now.key ≡ key.now) }
     {
-        self.line == line
+        self.order == key.order && self.line == key.line
     }
 }

@@ -1,5 +1,4 @@
-use Rattle.std.proofs.Common.{◌≡◌, ◌≤◌, take, sym, subst}
-use Rattle.commit_log.specs.Log.{Terms}
+use Rattle.std.proofs.Common.{◌≤◌, take, sym, subst}
 use Rattle.commit_log.proofs.laws.prefixes.Goals as goal
 
 pub returns-clause-rows : goal.returns-clause-rows

@@ -1,4 +1,4 @@
-use Rattle.std.proofs.Common.{◌-◌, ◌≤◌, length, arith, rules}
+use Rattle.std.proofs.Common.{◌-◌, arith, rules}
 use Rattle.commit_log.proofs.Columns.{none-block}
 use Rattle.commit_log.proofs.orders.blocks_end.Goals as goal
 

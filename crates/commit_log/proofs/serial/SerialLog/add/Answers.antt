@@ -1,8 +1,8 @@
-use Rattle.std.proofs.Common.{◌≡◌, ℕ, ◌+◌, ◌<◌, List, [], ◌∷◌, ◌++◌, length, if◌then◌else◌, sym, ap, ◌∙◌, subst, arith}
+use Rattle.std.proofs.Common.{◌≡◌, ℕ, ◌+◌, ◌<◌, List, [], ◌∷◌, ◌++◌, length, sym, ap, ◌∙◌, subst, arith}
 use Rattle.cubit_base.specs.declared.delta.Delta.{Delta}
 use Rattle.cubit_base.specs.Table.{Row}
-use Rattle.cubit_base.specs.Delta.{applied, is_insert, IsLawful}
-use Rattle.cubit_base.specs.History.{after, IsHistory, rows_after}
+use Rattle.cubit_base.specs.Delta.{applied, IsLawful}
+use Rattle.cubit_base.specs.History.{after, rows_after}
 use Rattle.commit_log.specs.Logged.{Logged, logged_of}
 use Rattle.commit_log.specs.Serial.{SerialValue, serial_terms, deltas_of, IsSerial}
 use Rattle.commit_log.proofs.Adding.{serial-snoc}

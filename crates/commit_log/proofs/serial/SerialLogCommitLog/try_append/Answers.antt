@@ -1,4 +1,4 @@
-use Rattle.std.proofs.Common.{◌≡◌, ◌<◌, length, ap, arith}
+use Rattle.std.proofs.Common.{◌≡◌, length, ap, arith}
 use Rattle.cubit_base.specs.declared.entry.Limits.{Limits}
 use Rattle.commit_log.specs.Serial.{serial_terms}
 use Rattle.commit_log.proofs.Appending.{appended}
