@@ -39,6 +39,7 @@
 
 mod date;
 mod delta;
+mod entry;
 mod key;
 pub mod laws;
 mod predicate;
@@ -49,6 +50,7 @@ mod tuple;
 
 pub use date::{date_of, day_of};
 pub use delta::{Delta, DeltaList};
+pub use entry::{Entry, Limits};
 pub use key::Key;
 pub use predicate::{Predicate, Range};
 pub use row_list::RowList;

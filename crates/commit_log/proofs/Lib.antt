@@ -1,0 +1,5 @@
+pub mod Adding
+pub mod Appending
+pub mod Columns
+pub mod Searching
+pub mod Stretches

@@ -1,0 +1,5 @@
+//! Callers of any log, and the log of one caller.
+
+mod serial;
+mod update;
+mod walk;
