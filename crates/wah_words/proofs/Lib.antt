@@ -3,6 +3,7 @@ pub mod Blocks
 pub mod Counted
 pub mod Fronts
 pub mod Groups
+pub mod GroupLaws
 pub mod Marks
 pub mod Moves
 pub mod Pointwise
@@ -10,6 +11,7 @@ pub mod Reading
 pub mod Results
 pub mod Runs
 pub mod Spelled
+pub mod Spelling
 pub mod Toggled
 pub mod Turned
 pub mod Unique

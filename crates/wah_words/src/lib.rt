@@ -43,6 +43,7 @@ mod complement;
 mod count;
 mod cursor;
 mod front;
+pub mod laws;
 mod operation;
 mod places;
 mod run;
