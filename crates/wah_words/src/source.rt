@@ -9,6 +9,9 @@ use crate::builder::Builder;
 use crate::front::front_within;
 use crate::run::Run;
 
+// Fewer groups are sooner written run by run than measured.
+const MEASURED_GROUPS: u32 = 8;
+
 /// Groups that are left to read: the rest of a run, the words after it, and groups of false rows after these.
 #[derive(Drop)]
 pub(crate) struct Source<'a> {
@@ -34,6 +37,7 @@ impl<'a> Source<'a> {
     }
 
     // Goes on to the next run where the run has ended.
+    #[inline(always)]
     fn refill(&mut self)
         ensures same { source_left self.new ≡ source_left self.old }
         ensures end { self.new.run.count ≡ 0 → source_left self.new ≡ [] }
@@ -95,7 +99,7 @@ impl<'a> Source<'a> {
         ensures most { IfOk result (λ count. count ≤ most) }
         ensures moved { IfOk result (λ count. Moves out.old (source_left self.old) out.new (source_left self.new) count) }
     {
-        if self.run.count != 0 || most == 0 {
+        if self.run.count != 0 || most < MEASURED_GROUPS {
             return Ok(0);
         }
         let front = front_within(self.words, most);
@@ -106,6 +110,7 @@ impl<'a> Source<'a> {
     }
 
     // Writes groups of one run, as many as it has and at most so many, and gives how many they are.
+    #[inline(always)]
     fn move_run(&mut self, out: &mut Builder, most: u32) -> Result<u32, Memory>
         requires some { 1 ≤ most }
         requires enough { most ≤ length (source_left self.old) }
