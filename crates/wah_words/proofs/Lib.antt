@@ -1,6 +1,7 @@
 pub mod Bits
 pub mod Blocks
 pub mod Counted
+pub mod Fits
 pub mod Fronts
 pub mod Groups
 pub mod GroupLaws
@@ -13,6 +14,7 @@ pub mod Runs
 pub mod Spelled
 pub mod Spelling
 pub mod Toggled
+pub mod ToggledRows
 pub mod Turned
 pub mod Unique
 pub mod Words

@@ -1,30 +1,12 @@
 -- Parts of canonical words, and canonical words side by side.
-use Rattle.std.proofs.Common.{◌≡◌, ℕ, zero, suc, ◌+◌, ◌-◌, ◌<◌, ◌≤◌, ◌∙◌, List, [], ◌∷◌, ◌++◌, length, get_or, take, drop, replicate, refl, sym, ap, arith, inl, inr}
-use Rattle.std.proofs.lemmas.List.{get_or_append_left, get_or-append_right, get_or-replicate, get_or-take, length-append, length-replicate, length-take}
-use Rattle.std.proofs.lemmas.List.Elements.{All-append, All-head, All-take}
+use Rattle.std.proofs.Common.{◌≡◌, ℕ, ◌+◌, ◌-◌, ◌<◌, ◌≤◌, ◌∙◌, List, [], ◌∷◌, ◌++◌, length, get_or, take, replicate, refl, sym, ap, arith, inl, inr}
+use Rattle.std.proofs.lemmas.List.{get_or_append_left, get_or-append_right, get_or-replicate, length-append, length-replicate}
+use Rattle.std.proofs.lemmas.List.Elements.{All-append, All-head}
 use Rattle.std.proofs.lemmas.Bool.{cases_lt}
 use Rattle.wah_words.specs.Word.{groups, run_count, run_group}
 use Rattle.wah_words.specs.Canonical.{AreRuns, AreApart, IsMixedLiteral, IsCountedFill}
 use Rattle.wah_words.proofs.Unique.{AreRuns-tail, fill_of_one_value, first_apart}
 use Rattle.wah_words.proofs.Words.{groups-push, last_apart, some_run}
-
--- canonical words without the first ones
-pub AreRuns-drop : (n : ℕ) (words : List ℕ) → AreRuns words → AreRuns (drop n words)
-AreRuns-drop zero words runs = runs
-AreRuns-drop (suc n) [] runs = runs
-AreRuns-drop (suc n) (word ∷ words) runs = AreRuns-drop n words (AreRuns-tail word words runs)
-
--- canonical words without the last ones
-pub AreRuns-take : (n : ℕ) (words : List ℕ) → AreRuns words → AreRuns (take n words)
-AreRuns-take n words runs =
-    record {
-      literals = All-take IsMixedLiteral n words runs.literals;
-      fills = All-take IsCountedFill n words runs.fills;
-      neighbours = λ k within.
-          let inside : k + 1 < n = omega (arith, length-take n words) in
-          let there : k + 1 < length words = omega (arith, length-take n words) in
-          rw (get_or-take n words k 0 (omega arith), get_or-take n words (k + 1) 0 inside) (runs.neighbours k there);
-    }
 
 -- canonical words side by side
 pub AreRuns-append : (a b : List ℕ) → AreRuns a → AreRuns b

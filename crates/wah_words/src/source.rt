@@ -70,7 +70,8 @@ impl<'a> Source<'a> {
         requires within { mask < 2 ^ 31 }
         requires some { 1 ≤ length (source_left self.old) }
         requires room { length out.old + length (source_left self.old) < 2 ^ 30 }
-        ensures { OnOk result (Moves out.old (first_toggled mask (source_left self.old)) out.new (source_left self.new) 1) }
+        ensures { OnOk result (Moves out.old (first_toggled mask (source_left self.old))
+            out.new (source_left self.new) 1) }
     {
         self.refill();
         out.push_group(self.run.group ^ mask)?;
@@ -97,7 +98,8 @@ impl<'a> Source<'a> {
     fn move_words(&mut self, out: &mut Builder, most: u32) -> Result<u32, Memory>
         requires { length out.old + length (source_left self.old) < 2 ^ 30 }
         ensures most { IfOk result (λ count. count ≤ most) }
-        ensures moved { IfOk result (λ count. Moves out.old (source_left self.old) out.new (source_left self.new) count) }
+        ensures moved { IfOk result (λ count. Moves out.old (source_left self.old)
+            out.new (source_left self.new) count) }
     {
         if self.run.count != 0 || most < MEASURED_GROUPS {
             return Ok(0);
@@ -117,7 +119,8 @@ impl<'a> Source<'a> {
         requires room { length out.old + length (source_left self.old) < 2 ^ 30 }
         ensures most { IfOk result (λ count. count ≤ most) }
         ensures some { IfOk result (λ count. 1 ≤ count) }
-        ensures moved { IfOk result (λ count. Moves out.old (source_left self.old) out.new (source_left self.new) count) }
+        ensures moved { IfOk result (λ count. Moves out.old (source_left self.old)
+            out.new (source_left self.new) count) }
     {
         self.refill();
         let count = self.run.count.min(most);
