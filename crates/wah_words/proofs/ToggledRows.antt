@@ -1,10 +1,10 @@
 -- Lists with some rows turned, row by row.
-use Rattle.std.proofs.Common.{◌≡◌, ◌≢◌, ℕ, ◌+◌, ◌-◌, ◌*◌, ◌/◌, ◌%◌, ◌^◌, ◌<◌, ◌≤◌, ◌∙◌, Bool, true, false, eqb, List, ◌++◌, length, get_or, take, drop, replicate, refl, sym, ap, subst, arith, inl, inr}
-use Rattle.std.specs.Prelude.{All, bit_xor, ◌||◌}
+use Rattle.std.proofs.Common.{◌≡◌, ◌≢◌, ℕ, ◌+◌, ◌-◌, ◌*◌, ◌/◌, ◌%◌, ◌^◌, ◌<◌, ◌≤◌, ◌∙◌, ◌↔◌, Bool, true, false, eqb, List, ◌++◌, length, get_or, take, drop, replicate, refl, sym, ap, subst, arith, inl, inr}
+use Rattle.std.specs.Prelude.{All, Any, Contains, IsTrue, bit_xor, ◌||◌}
 use Rattle.std.specs.Int.{bit_at}
 use Rattle.std.specs.List.Sorted.{IsStrictlyIncreasing}
-use Rattle.std.proofs.lemmas.List.{get_or_append_left, get_or-append_right, get_or_past, get_or-take, get_or-drop, get_or_default, length-take-le}
-use Rattle.std.proofs.lemmas.List.Folds.{list_any_more, list_any_none}
+use Rattle.std.proofs.lemmas.List.{ext_get_or, get_or_append_left, get_or-append_right, get_or_past, get_or-take, get_or-drop, get_or_default, length-take-le}
+use Rattle.std.proofs.lemmas.List.Folds.{Any-from_list_any, list_any_at, list_any_more, list_any_none}
 use Rattle.std.proofs.lemmas.List.Concat.{flat_map-append}
 use Rattle.std.proofs.lemmas.List.Kept.{AllPairs-from_increasing}
 use Rattle.std.proofs.lemmas.Bool.{cases_lt, cases_eq, eq-eqb, eqb-true}
@@ -209,3 +209,21 @@ take_toggled old new places rows is within below long = record {
             ∙ is.each row
       ];
 }
+
+some_place : (places : List ℕ) (row : ℕ) → Any (λ place. eqb place row ≡ true) places → Contains places row
+some_place places row (k, place, within, at, same) =
+    (k, within, subst (λ p. get_or places k p ≡ p) (eqb-true place row same) at)
+
+has_place : (places : List ℕ) (row : ℕ) → Contains places row → IsTrue (has places row)
+has_place places row (k, within, at) =
+    list_any_at (λ place. eqb place row) places k row within (eq-eqb (get_or places k row) row at)
+
+-- a row that is one of the places
+pub has_contains : (places : List ℕ) (row : ℕ) → IsTrue (has places row) ↔ Contains places row
+has_contains places row = (λ is. some_place places row (Any-from_list_any (λ place. eqb place row) places is), has_place places row)
+
+-- a list by the rows that were turned
+pub same_toggled : (old : List Bool) (places : List ℕ) (a b : List Bool) → length a ≡ length b → IsToggled old places a
+    → IsToggled old places b → a ≡ b
+same_toggled old places a b long is_a is_b =
+    ext_get_or false a b long (λ row within. is_a.each row ∙ sym (is_b.each row))

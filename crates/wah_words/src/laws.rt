@@ -1,8 +1,8 @@
 //! The laws of groups and of spellings, for the layers above. These functions do nothing: where one is called, its
 //! clauses are known.
-ghost use Rattle.std.specs.Prelude.{ℕ, Bool, List, ◌≡◌, ◌<◌, ◌≤◌, ◌+◌, ◌-◌, ◌*◌, ◌/◌, ◌%◌, ◌^◌, ◌&&◌, ◌||◌, All, bit_and, bit_or, bit_xor, count_ones, drop, false, length, slice_index, slice_index_or, take};
+ghost use Rattle.std.specs.Prelude.{ℕ, Bool, Contains, IsTrue, List, ◌↔◌, ◌≡◌, ◌<◌, ◌≤◌, ◌+◌, ◌-◌, ◌*◌, ◌/◌, ◌%◌, ◌^◌, ◌&&◌, ◌||◌, All, bit_and, bit_or, bit_xor, count_ones, drop, false, length, slice_index, slice_index_or, take};
 ghost use Rattle.wah_words.specs.Group.{group_at, group_count, group_row, unpacked};
-ghost use Rattle.wah_words.specs.Rows.{differs, pointwise, true_count};
+ghost use Rattle.wah_words.specs.Rows.{IsToggled, differs, has, pointwise, true_count};
 ghost use Rattle.wah_words.specs.Sum.{sum_below};
 ghost use Rattle.wah_words.specs.Canonical.{AreWords, FitsFills, Spells};
 
@@ -28,6 +28,15 @@ pub fn rows_of_groups()
     ensures front { (groups : List ℕ) (rows k : ℕ) → All (λ group. group < 2 ^ 31) groups →
         All (λ row. row ≡ false) (drop rows (unpacked groups)) →
         group_at (take rows (unpacked groups)) k ≡ slice_index groups k }
+{}
+
+/// The rows that are turned.
+pub fn toggles()
+    ensures has { (places : List ℕ) (row : ℕ) → IsTrue (has places row) ↔ Contains places row }
+
+    // A list is determined by its length, and by what it is made of by turning rows.
+    ensures same { (old : List Bool) (places : List ℕ) (a b : List Bool) → length a ≡ length b →
+        IsToggled old places a → IsToggled old places b → a ≡ b }
 {}
 
 /// Operations on lists, group by group.

@@ -14,7 +14,7 @@
 //! - `Wah::words`: the words spell the list (`spelling`), and group k of the words is that of the list (`each_group`).
 //! - `one_spelling`: words that spell one list are the same words, and words spell one list of a length alone.
 //! - `Run::of_word`, `is_literal`: what one word stands for.
-//! - `laws`: lists, operations and counts group by group, and exactly which lists have a spelling.
+//! - `laws`: lists, operations and counts group by group, turned rows, and exactly which lists have a spelling.
 //! - Lists that a call is lent stay as they are, and every call returns.
 //!
 //! # Only tested
