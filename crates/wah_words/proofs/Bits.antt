@@ -22,15 +22,17 @@ one_from zero below = refl
 one_from (suc zero) below = refl
 one_from (suc (suc m)) below = absurd (omega arith)
 
-odd_is : (n : ℕ) → cond (eqb (n % 2) 1) 1 0 ≡ n % 2
+-- the lowest bit of a number
+pub odd_is : (n : ℕ) → cond (eqb (n % 2) 1) 1 0 ≡ n % 2
 odd_is n = one_from (n % 2) (omega arith)
 
 -- the lowest bit, and the bits above it
-low_bit : (bit : Bool) (n : ℕ) → eqb ((cond bit 1 0 + 2 * n) % 2) 1 ≡ bit
+pub low_bit : (bit : Bool) (n : ℕ) → eqb ((cond bit 1 0 + 2 * n) % 2) 1 ≡ bit
 low_bit true n = let odd : (1 + 2 * n) % 2 ≡ 1 = omega arith in rw odd refl
 low_bit false n = let even : (0 + 2 * n) % 2 ≡ 0 = omega arith in rw even refl
 
-high_bits : (bit : Bool) (n : ℕ) → (cond bit 1 0 + 2 * n) / 2 ≡ n
+-- the bits above the lowest
+pub high_bits : (bit : Bool) (n : ℕ) → (cond bit 1 0 + 2 * n) / 2 ≡ n
 high_bits true n = omega arith
 high_bits false n = omega arith
 

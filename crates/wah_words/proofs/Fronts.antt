@@ -16,16 +16,16 @@ front_word words most count group_count front within few = record {
   few = few;
 }
 
--- a block more
-pub front_block : (words block : List ℕ) (most count group_count n more : ℕ) → IsFront words most count group_count
-    → n ≤ length (drop count words) → block ≡ take n (drop count words) → more ≡ length (groups block)
+-- a span more
+pub front_span : (words span : List ℕ) (most count group_count n more : ℕ) → IsFront words most count group_count
+    → n ≤ length (drop count words) → span ≡ take n (drop count words) → more ≡ length (groups span)
     → group_count + more ≤ most → IsFront words most (count + n) (group_count + more)
-front_block words block most count group_count n more front within is counts few = record {
+front_span words span most count group_count n more front within is counts few = record {
   within = omega (arith, front.within, length-drop count words);
   is =
-      let parted : groups (take (count + n) words) ≡ groups (take count words) ++ groups block =
+      let parted : groups (take (count + n) words) ≡ groups (take count words) ++ groups span =
       ap groups (take-add count n words ∙ ap (λ end. take count words ++ end) (sym is))
-      ∙ flat_map-append word_groups (take count words) block in
-      omega (arith, ap length parted, length-append (groups (take count words)) (groups block), front.is, counts);
+      ∙ flat_map-append word_groups (take count words) span in
+      omega (arith, ap length parted, length-append (groups (take count words)) (groups span), front.is, counts);
   few = few;
 }

@@ -1,8 +1,10 @@
 pub mod Bits
 pub mod Blocks
 pub mod Counted
+pub mod Fits
 pub mod Fronts
 pub mod Groups
+pub mod GroupLaws
 pub mod Marks
 pub mod Moves
 pub mod Pointwise
@@ -10,7 +12,9 @@ pub mod Reading
 pub mod Results
 pub mod Runs
 pub mod Spelled
+pub mod Spelling
 pub mod Toggled
+pub mod ToggledRows
 pub mod Turned
 pub mod Unique
 pub mod Words

@@ -43,7 +43,8 @@ get_or-low_bits (suc count) n (suc place) within = get_or-low_bits count (n / 2)
     ∙ ap (λ bit. eqb bit 1) (sym (bit_at-suc n place))
 
 -- a row of a group
-pub get_or-group_rows : (group place : ℕ) → place < 31 → get_or (group_rows group) place false ≡ eqb (bit_at group place) 1
+pub get_or-group_rows : (group place : ℕ) → place < 31
+    → get_or (group_rows group) place false ≡ eqb (bit_at group place) 1
 unfolding group_rows
 get_or-group_rows group place within = get_or-low_bits 31 group place within
 

@@ -5,10 +5,6 @@ use Rattle.std.proofs.lemmas.List.{append_assoc, length-append, length-replicate
 use Rattle.wah_words.specs.Moves.{Moves, first_toggled}
 use Rattle.wah_words.proofs.Pointwise.{front_run}
 
--- no group
-pub moves_none : (out left : List ℕ) → Moves out left out left 0
-moves_none out left = record { all = refl; size = omega arith }
-
 -- some groups, and then others
 pub moves-moves : (out left next next_left last last_left : List ℕ) (m n : ℕ) → Moves out left next next_left m
     → Moves next next_left last last_left n → Moves out left last last_left (m + n)

@@ -1,34 +1,15 @@
 -- Parts of canonical words, and canonical words side by side.
-use Rattle.std.proofs.Common.{◌≡◌, ◌≢◌, ℕ, zero, suc, ◌+◌, ◌-◌, ◌/◌, ◌%◌, ◌^◌, ◌<◌, ◌≤◌, ◌∙◌, Bool, true, false, eqb, List, [], ◌∷◌, ◌++◌, length, get_or, take, drop, replicate, refl, sym, ap, arith, inl, inr}
-use Rattle.std.proofs.lemmas.List.{get_or_append_left, get_or-append_right, get_or-replicate, get_or-take, length-append, length-replicate, length-take}
-use Rattle.std.proofs.lemmas.List.Elements.{All-append, All-head, All-take}
+use Rattle.std.proofs.Common.{◌≡◌, ℕ, ◌+◌, ◌-◌, ◌<◌, ◌≤◌, ◌∙◌, List, [], ◌∷◌, ◌++◌, length, get_or, take, replicate, refl, sym, ap, arith, inl, inr}
+use Rattle.std.proofs.lemmas.List.{get_or_append_left, get_or-append_right, get_or-replicate, length-append, length-replicate}
+use Rattle.std.proofs.lemmas.List.Elements.{All-append, All-head}
 use Rattle.std.proofs.lemmas.Bool.{cases_lt}
-use Rattle.wah_words.specs.Group.{filled}
 use Rattle.wah_words.specs.Word.{groups, run_count, run_group}
 use Rattle.wah_words.specs.Canonical.{AreRuns, AreApart, IsMixedLiteral, IsCountedFill}
-use Rattle.wah_words.proofs.Unique.{AreRuns-tail}
-use Rattle.wah_words.proofs.Words.{groups-push, last_apart, run_group-fill, run_group-literal, some_run}
-
--- canonical words without the first ones
-pub AreRuns-drop : (n : ℕ) (words : List ℕ) → AreRuns words → AreRuns (drop n words)
-AreRuns-drop zero words runs = runs
-AreRuns-drop (suc n) [] runs = runs
-AreRuns-drop (suc n) (word ∷ words) runs = AreRuns-drop n words (AreRuns-tail word words runs)
-
--- canonical words without the last ones
-pub AreRuns-take : (n : ℕ) (words : List ℕ) → AreRuns words → AreRuns (take n words)
-AreRuns-take n words runs =
-    record {
-      literals = All-take IsMixedLiteral n words runs.literals;
-      fills = All-take IsCountedFill n words runs.fills;
-      neighbours = λ k within.
-          let inside : k + 1 < n = omega (arith, length-take n words) in
-          let there : k + 1 < length words = omega (arith, length-take n words) in
-          rw (get_or-take n words k 0 (omega arith), get_or-take n words (k + 1) 0 inside) (runs.neighbours k there);
-    }
+use Rattle.wah_words.proofs.Unique.{AreRuns-tail, fill_of_one_value, first_apart}
+use Rattle.wah_words.proofs.Words.{groups-push, last_apart, some_run}
 
 -- canonical words side by side
-AreRuns-append : (a b : List ℕ) → AreRuns a → AreRuns b
+pub AreRuns-append : (a b : List ℕ) → AreRuns a → AreRuns b
     → (0 < length a → 0 < length b → AreApart (get_or a (length a - 1) 0) (get_or b 0 0)) → AreRuns (a ++ b)
 AreRuns-append a b left right apart = record {
   literals = All-append IsMixedLiteral a b left.literals right.literals;
@@ -85,25 +66,18 @@ same_end a b m n g h some_g some_h same =
     ∙ ap (λ k. get_or (b ++ replicate n h) (k - 1) 0) long
     ∙ end_of_run b n h some_h
 
--- a mixed literal is no group of a fill
-filled-mixed : (value : Bool) (word : ℕ) → 0 < word → word < 2 ^ 31 - 1 → filled value ≢ word
-filled-mixed true word some_true some_false = λ same. omega arith
-filled-mixed false word some_true some_false = λ same. omega arith
-
 -- what stands apart from the first of some words stands apart from a last word with its group
 apart_from_same : (last first word : ℕ) → IsMixedLiteral first → AreApart first word → run_group last ≡ run_group first
     → AreApart last word
 apart_from_same last first word mixed apart same last_fill word_fill equal =
-    elim (cases_lt first (2 ^ 31)) [
-      | inl low ↦
-          filled-mixed (eqb (word / 2 ^ 30 % 2) 1) first (mixed low).0 (mixed low).1
-          (sym (run_group-fill word word_fill) ∙ sym equal ∙ same ∙ run_group-literal first low)
-      | inr high ↦ apart high word_fill (sym same ∙ equal)
-    ]
+    let group : run_group first ≡ run_group word = sym same ∙ equal in
+    apart (fill_of_one_value first word mixed word_fill group) word_fill group
 
-first_apart : (first : ℕ) (rest : List ℕ) → AreRuns (first ∷ rest) → 0 < length rest
+-- the first word apart from the next
+pub first_of_rest : (first : ℕ) (rest : List ℕ) → AreRuns (first ∷ rest) → 0 < length rest
     → AreApart first (get_or rest 0 0)
-first_apart first rest runs some = let next : 0 + 1 ≡ 1 = refl in runs.neighbours 0 (omega arith)
+first_of_rest first [] runs some = absurd (omega arith)
+first_of_rest first (word ∷ rest) runs some = first_apart first word rest runs
 
 -- words after words that end in the groups of their first
 pub AreRuns-join : (words rest before : List ℕ) (first : ℕ) → AreRuns words → AreRuns (first ∷ rest)
@@ -121,6 +95,6 @@ AreRuns-join words rest before first left right is =
     let counted = some_run last (left.fills (length words - 1) 0 (omega arith)) in
     let first_counted = some_run first (All-head IsCountedFill first rest right.fills) in
     apart_from_same last first (get_or rest 0 0) (All-head IsMixedLiteral first rest right.literals)
-    (first_apart first rest right some_rest)
+    (first_of_rest first rest right some_rest)
     (same_end front before (run_count last) (run_count first) (run_group last) (run_group first) counted
     first_counted parted))

@@ -1,21 +1,20 @@
 -- Words with each row turned.
-use Rattle.std.proofs.Common.{◌≡◌, ℕ, suc, ◌+◌, ◌-◌, ◌*◌, ◌/◌, ◌%◌, ◌^◌, ◌<◌, ◌≤◌, ◌∙◌, ◌↔◌, not, List, [], ◌∷◌, ◌++◌, length, get_or, set, replicate, map, refl, sym, ap, subst, arith, inl, inr}
+use Rattle.std.proofs.Common.{◌≡◌, ℕ, ◌+◌, ◌-◌, ◌*◌, ◌/◌, ◌%◌, ◌^◌, ◌<◌, ◌≤◌, ◌∙◌, ◌↔◌, not, List, [], ◌∷◌, ◌++◌, length, get_or, replicate, map, refl, sym, ap, arith, inl, inr}
 use Rattle.std.specs.Prelude.{bit_and, bit_xor}
 use Rattle.std.specs.Int.Bits.{xor_add_and, xor_zero_r}
 use Rattle.std.proofs.lemmas.Nat.{and_comm, and_mask, xor_block, xor_comm}
-use Rattle.std.proofs.lemmas.List.{map-append, length-set, get_or-set_other}
-use Rattle.std.proofs.lemmas.Grind.{get_or-set_at}
+use Rattle.std.proofs.lemmas.List.{get_or-map, length-map, map-append}
 use Rattle.std.proofs.lemmas.List.Concat.{flat_map-append}
-use Rattle.std.proofs.lemmas.List.Elements.{All-from_get_or}
-use Rattle.std.proofs.lemmas.Bool.{cases_lt}
+use Rattle.std.proofs.lemmas.List.Elements.{All-from_get_or, All-head, All-tail}
+use Rattle.std.proofs.lemmas.Bool.{cases_lt, le-ltb, lt-ltb}
 use Rattle.wah_words.specs.Group.{group_rows, unpacked}
-use Rattle.wah_words.specs.Word.{run_group, run_count, groups}
-use Rattle.wah_words.specs.Canonical.{AreRuns, AreApart, IsMixedLiteral, IsCountedFill}
+use Rattle.wah_words.specs.Word.{run_group, run_count, groups, turned_word}
+use Rattle.wah_words.specs.Canonical.{AreRuns, AreWords, AreApart, IsMixedLiteral, IsCountedFill}
 use Rattle.wah_words.proofs.Words.{run_group-literal, run_count-literal, run_group-false_fill, run_group-true_fill, run_count-fill, groups-cons, heads, run_group-lt}
 use Rattle.wah_words.proofs.Pointwise.{group_rows-complement, unpacked-turned}
 
 -- a word of the same kind whose rows are the others
-pub record IsTurned (word turned : ℕ) : Type 0 where
+record IsTurned (word turned : ℕ) : Type 0 where
   pub fill : (2 ^ 31 ≤ turned) ↔ (2 ^ 31 ≤ word)
   pub count : run_count turned ≡ run_count word
   pub group : run_group turned + run_group word ≡ 2 ^ 31 - 1
@@ -33,7 +32,7 @@ xor-value_bit head count within =
     xor_block 30 head 1 count 0 within (omega arith) ∙ ap (λ rest. bit_xor head 1 * 2 ^ 30 + rest) (xor_zero_r count)
 
 -- a literal turned
-pub turned_literal : (word : ℕ) → word < 2 ^ 31 → IsTurned word (bit_xor word 2147483647)
+turned_literal : (word : ℕ) → word < 2 ^ 31 → IsTurned word (bit_xor word 2147483647)
 turned_literal word below =
     let turned = bit_xor word 2147483647 in
     let others : turned + word ≡ 2147483647 = ap (λ n. n + word) (xor_comm word 2147483647) ∙ xor-ones word below in
@@ -58,7 +57,7 @@ turned_head word head is =
     ap (λ n. bit_xor n (2 ^ 30)) parts ∙ xor-value_bit head (word % 2 ^ 30) (omega arith)
 
 -- a fill turned
-pub turned_fill : (word : ℕ) → 2 ^ 31 ≤ word → word < 2 ^ 32 → IsTurned word (bit_xor word (2 ^ 30))
+turned_fill : (word : ℕ) → 2 ^ 31 ≤ word → word < 2 ^ 32 → IsTurned word (bit_xor word (2 ^ 30))
 turned_fill word above below =
     let turned = bit_xor word (2 ^ 30) in
     elim (heads word above below) [
@@ -79,26 +78,13 @@ group_rows-turned turned group below others =
     let same : turned ≡ bit_xor 2147483647 group = omega (arith, xor-ones group below) in
     ap group_rows same ∙ group_rows-complement group
 
--- the words before i turned, and the others as they were
-pub record AreTurnedTo (words turned : List ℕ) (i : ℕ) : Type 0 where
-  pub size : length turned ≡ length words
-  pub before : (k : ℕ) → k < i → IsTurned (get_or words k 0) (get_or turned k 0)
-  pub after : (k : ℕ) → i ≤ k → get_or turned k 0 ≡ get_or words k 0
-
--- the next word turned
-pub turned_more : (words turned : List ℕ) (i word : ℕ) → AreTurnedTo words turned i → i < length words
-    → IsTurned (get_or words i 0) word → AreTurnedTo words (set turned i word) (i + 1)
-turned_more words turned i word are within is = record {
-  size = length-set turned i word ∙ are.size;
-  before = λ k below.
-      elim (cases_lt k i) [
-        | inl earlier ↦ rw (get_or-set_other turned i k word 0 (omega arith)) (are.before k earlier)
-        | inr from ↦ let here : i ≡ k = omega arith in
-            rw (get_or-set_at turned i k word 0 (omega arith) (omega (arith, are.size)))
-            (subst (λ n. IsTurned (get_or words n 0) word) here is)
-      ];
-  after = λ k above. rw (get_or-set_other turned i k word 0 (omega arith)) (are.after k (omega arith));
-}
+-- a word turned
+turned : (word : ℕ) → word < 2 ^ 32 → IsTurned word (turned_word word)
+turned word below =
+    elim (cases_lt word (2 ^ 31)) [
+      | inl low ↦ rw (lt-ltb word (2 ^ 31) low) (turned_literal word low)
+      | inr high ↦ rw (le-ltb word (2 ^ 31) high) (turned_fill word high below)
+    ]
 
 mixed_turned : (word turned : ℕ) → IsTurned word turned → IsMixedLiteral word → IsMixedLiteral turned
 mixed_turned word turned is mixed =
@@ -119,21 +105,27 @@ apart_turned v w v' w' is_v is_w apart =
     λ above here same. apart (is_v.fill.0 above) (is_w.fill.0 here) (omega (arith, is_v.group, is_w.group, same))
 
 -- turned runs are runs
-pub AreRuns-turned : (words turned : List ℕ) (i : ℕ) → AreTurnedTo words turned i → length words ≤ i → AreRuns words
-    → AreRuns turned
-AreRuns-turned words turned i are all runs = record {
-  literals =
-      All-from_get_or IsMixedLiteral turned 0
-      (λ k within. mixed_turned (get_or words k 0) (get_or turned k 0) (are.before k (omega (arith, are.size)))
-      (runs.literals k 0 (omega (arith, are.size))));
-  fills = All-from_get_or IsCountedFill turned 0
-      (λ k within. counted_turned (get_or words k 0) (get_or turned k 0) (are.before k (omega (arith, are.size)))
-      (runs.fills k 0 (omega (arith, are.size))));
-  neighbours = λ k within.
-      apart_turned (get_or words k 0) (get_or words (k + 1) 0) (get_or turned k 0) (get_or turned (k + 1) 0)
-      (are.before k (omega (arith, are.size))) (are.before (k + 1) (omega (arith, are.size)))
-      (runs.neighbours k (omega (arith, are.size)));
-}
+pub AreRuns-turned : (words : List ℕ) → AreWords words → AreRuns words → AreRuns (map turned_word words)
+AreRuns-turned words within runs =
+    let is = λ (k : ℕ) (inside : k < length words). turned (get_or words k 0) (within k 0 inside) in
+    let at = λ (k : ℕ) (inside : k < length words). get_or-map turned_word words k 0 0 inside in
+    let long : length (map turned_word words) ≡ length words = length-map words turned_word in
+    record {
+      literals = All-from_get_or IsMixedLiteral (map turned_word words) 0
+          (λ k inside. let there : k < length words = omega arith in
+          rw (at k there) (mixed_turned (get_or words k 0) (turned_word (get_or words k 0)) (is k there)
+          (runs.literals k 0 there)));
+      fills = All-from_get_or IsCountedFill (map turned_word words) 0
+          (λ k inside. let there : k < length words = omega arith in
+          rw (at k there) (counted_turned (get_or words k 0) (turned_word (get_or words k 0)) (is k there)
+          (runs.fills k 0 there)));
+      neighbours = λ k inside.
+          let here : k < length words = omega arith in
+          let next : k + 1 < length words = omega arith in
+          rw (at k here, at (k + 1) next)
+          (apart_turned (get_or words k 0) (get_or words (k + 1) 0) (turned_word (get_or words k 0))
+          (turned_word (get_or words (k + 1) 0)) (is k here) (is (k + 1) next) (runs.neighbours k next));
+    }
 
 unpacked-word : (word : ℕ) (words : List ℕ)
     → unpacked (groups (word ∷ words))
@@ -141,27 +133,21 @@ unpacked-word : (word : ℕ) (words : List ℕ)
 unpacked-word word words = ap unpacked (groups-cons word words)
     ∙ flat_map-append group_rows (replicate (run_count word) (run_group word)) (groups words)
 
-unpacked-each_turned : (words turned : List ℕ) → length turned ≡ length words
-    → ((k : ℕ) → k < length words → IsTurned (get_or words k 0) (get_or turned k 0))
-    → unpacked (groups turned) ≡ map not (unpacked (groups words))
-unpacked-each_turned [] [] size each = refl
-unpacked-each_turned [] (t ∷ turned) size each = absurd (omega arith)
-unpacked-each_turned (w ∷ words) [] size each = absurd (omega arith)
-unpacked-each_turned (w ∷ words) (t ∷ turned) size each =
-    let is : IsTurned w t = each 0 (omega arith) in
+-- their rows are the others
+pub unpacked-turned_words : (words : List ℕ) → AreWords words
+    → unpacked (groups (map turned_word words)) ≡ map not (unpacked (groups words))
+unpacked-turned_words [] within = refl
+unpacked-turned_words (w ∷ words) within =
+    let t = turned_word w in
+    let is : IsTurned w t = turned w (All-head (λ x. x < 2 ^ 32) w words within) in
     let run = unpacked (replicate (run_count w) (run_group w)) in
-    unpacked-word t turned
-    ∙ ap (λ n. unpacked (replicate n (run_group t)) ++ unpacked (groups turned)) is.count
-    ∙ ap (λ front. front ++ unpacked (groups turned))
+    let rest = groups (map turned_word words) in
+    unpacked-word t (map turned_word words)
+    ∙ ap (λ n. unpacked (replicate n (run_group t)) ++ unpacked rest) is.count
+    ∙ ap (λ front. front ++ unpacked rest)
     (unpacked-turned (run_count w) (run_group t) (run_group w)
     (group_rows-turned (run_group t) (run_group w) (run_group-lt w) is.group))
     ∙ ap (λ rest. map not run ++ rest)
-    (unpacked-each_turned words turned (omega arith) (λ k within. each (suc k) (omega arith)))
+    (unpacked-turned_words words (All-tail (λ x. x < 2 ^ 32) w words within))
     ∙ sym (map-append not run (unpacked (groups words)))
     ∙ ap (map not) (sym (unpacked-word w words))
-
--- their rows are the others
-pub unpacked-turned_words : (words turned : List ℕ) (i : ℕ) → AreTurnedTo words turned i → length words ≤ i
-    → unpacked (groups turned) ≡ map not (unpacked (groups words))
-unpacked-turned_words words turned i are all =
-    unpacked-each_turned words turned are.size (λ k within. are.before k (omega arith))

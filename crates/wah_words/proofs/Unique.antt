@@ -57,7 +57,8 @@ AreRuns-tail w words runs = record {
       rw next at (runs.neighbours (suc k) (omega arith));
 }
 
-first_apart : (v w : ℕ) (words : List ℕ) → AreRuns (v ∷ w ∷ words) → AreApart v w
+-- the first two words
+pub first_apart : (v w : ℕ) (words : List ℕ) → AreRuns (v ∷ w ∷ words) → AreApart v w
 first_apart v w words runs = let next : 0 + 1 ≡ 1 = refl in runs.neighbours 0 (omega arith)
 
 -- a run of several groups is a fill
@@ -70,7 +71,8 @@ filled-uniform : (value : Bool) (n : ℕ) → n ≡ filled value → 0 < n → n
 filled-uniform true n is some less = omega arith
 filled-uniform false n is some less = omega arith
 
-fill_of_one_value : (v w : ℕ) → IsMixedLiteral v → 2 ^ 31 ≤ w → run_group v ≡ run_group w → 2 ^ 31 ≤ v
+-- what has the group of a fill is a fill
+pub fill_of_one_value : (v w : ℕ) → IsMixedLiteral v → 2 ^ 31 ≤ w → run_group v ≡ run_group w → 2 ^ 31 ≤ v
 fill_of_one_value v w mixed above same =
     elim (cases_lt v (2 ^ 31)) [
       | inl low ↦

@@ -112,13 +112,14 @@ set_last ws n w long some = set_split ws (n - 1) w (omega arith)
     ∙ ap (λ rest. take (n - 1) ws ++ w ∷ rest) (drop_all (suc (n - 1)) ws (omega arith))
 
 -- a fill that counts some groups more
-run_group-grown : (fill count : ℕ) → 2 ^ 31 ≤ fill → fill % 2 ^ 30 + count < 2 ^ 30
+pub run_group-grown : (fill count : ℕ) → 2 ^ 31 ≤ fill → fill % 2 ^ 30 + count < 2 ^ 30
     → run_group (fill + count) ≡ run_group fill
 run_group-grown fill count above room =
     let head : (fill + count) / 2 ^ 30 ≡ fill / 2 ^ 30 = omega arith in
     run_group-fill (fill + count) (omega arith) ∙ (rw head refl) ∙ sym (run_group-fill fill above)
 
-run_count-grown : (fill count : ℕ) → 2 ^ 31 ≤ fill → fill % 2 ^ 30 + count < 2 ^ 30
+-- how many it counts then
+pub run_count-grown : (fill count : ℕ) → 2 ^ 31 ≤ fill → fill % 2 ^ 30 + count < 2 ^ 30
     → run_count (fill + count) ≡ run_count fill + count
 run_count-grown fill count above room =
     omega (arith, run_count-fill fill above, run_count-fill (fill + count) (omega arith))

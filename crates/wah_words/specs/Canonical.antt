@@ -1,6 +1,6 @@
 -- The one form in which a list of truth values is spelled by words.
 use Rattle.std.specs.Prelude.{ℕ, ◌+◌, ◌-◌, ◌^◌, ◌<◌, ◌≤◌, ◌≡◌, ◌≢◌, Bool, false, List, length, take, drop, slice_index, All}
-use Rattle.wah_words.specs.Group.{unpacked, group_count}
+use Rattle.wah_words.specs.Group.{filled, group_at, unpacked, group_count}
 use Rattle.wah_words.specs.Word.{groups, run_group, run_count}
 
 -- each number is a word of 32 bits
@@ -42,3 +42,8 @@ spelled_rows words rows = take rows (unpacked (groups words))
 pub record Spells (words : List ℕ) (list : List Bool) : Type 0 where
   pub canonical : IsCanonical words (length list)
   pub rows : spelled_rows words (length list) ≡ list
+
+-- groups side by side that are all false, or all true, are no more than one fill can count
+abbrev pub FitsFills : List Bool → Type 0
+FitsFills list = (first count : ℕ) (value : Bool) → first + count ≤ group_count (length list)
+    → ((k : ℕ) → k < count → group_at list (first + k) ≡ filled value) → count < 2 ^ 30

@@ -21,6 +21,10 @@ unpacked groups = flat_map group_rows groups
 abbrev pub group_at : List Bool → ℕ → ℕ
 group_at list k = mask_l (take 31 (drop (31 * k) list))
 
+-- the row at a place of a group
+abbrev pub group_row : ℕ → ℕ → Bool
+group_row group place = group / 2 ^ place % 2 == 1
+
 -- how many groups it takes to hold that many rows
 abbrev pub group_count : ℕ → ℕ
 group_count rows = (rows + 30) / 31

@@ -5,5 +5,6 @@ pub mod Group
 pub mod Moves
 pub mod Rows
 pub mod Source
+pub mod Sum
 pub mod Walk
 pub mod Word

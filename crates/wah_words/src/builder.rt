@@ -6,7 +6,7 @@
 //! for the turned rows.
 ghost use Rattle.std.specs.Prelude.{ℕ, ◌≡◌, ◌<◌, ◌≤◌, ◌+◌, ◌-◌, ◌^◌, [], ◌∷◌, ◌++◌, length, map, not, replicate, IfOk, OnOk, OnErr};
 ghost use Rattle.wah_words.specs.Group.{filled, unpacked};
-ghost use Rattle.wah_words.specs.Word.{groups};
+ghost use Rattle.wah_words.specs.Word.{groups, turned_word};
 ghost use Rattle.wah_words.specs.Canonical.{AreRuns};
 ghost use Rattle.wah_words.specs.Walk.{AreMixed};
 
@@ -55,13 +55,14 @@ impl Builder {
         Ok(Builder { words: copy })
     }
 
-    /// Turns each row.
-    pub(crate) fn turn(&mut self)
-        ensures { unpacked self.new ≡ map not (unpacked self.old) }
+    /// The groups of words with each row turned.
+    pub(crate) fn turned(alloc: Global, words: &[u32]) -> Result<Builder, Memory>
+        requires { AreRuns words.now }
+        ensures { IfOk result (λ builder. unpacked builder ≡ map not (unpacked (groups words.now))) }
     {
-        for word in self.words.iter_mut() {
-            *word = word_complement(*word);
-        }
+        Ok(Builder {
+            words: turned_words(alloc, words)?,
+        })
     }
 
     // Puts a group at the end whose rows differ.
@@ -164,4 +165,14 @@ impl Builder {
     {
         self.words
     }
+}
+
+// The words whose rows are the others.
+fn turned_words(alloc: Global, words: &[u32]) -> Result<Vec<u32>, Memory>
+    ensures { IfOk result (λ turned. turned.items ≡ map turned_word words.now) }
+{
+    words
+        .iter()
+        .map(|word| word_complement(*word))
+        .collect(alloc)
 }

@@ -18,8 +18,7 @@ pub(crate) fn complement(alloc: Global, words: &[u32], rows: u32) -> Result<Buil
     let Some((last, front)) = words.split_last() else {
         return Builder::with_capacity(alloc, 0);
     };
-    let mut out = Builder::from_slice(alloc, front)?;
-    out.turn();
+    let mut out = Builder::turned(alloc, front)?;
     // Of the words the last alone may become two, since its last group may have rows past the last row.
     push_last_complement(&mut out, *last, rows)?;
     Ok(out)

@@ -1,12 +1,16 @@
 //! How many words from the front have no more than so many groups.
 //!
-//! Words are measured by blocks: one test tells that all words of a block are literals, which have a group each.
+//! Words are measured by spans: one test tells that all words of a span are literals, which have a group each.
 ghost use Rattle.std.specs.Prelude.{ℕ, ◌≡◌, ◌<◌, ◌^◌, IsTrue, length, slice_index};
 ghost use Rattle.wah_words.specs.Word.{groups as groups_of};
 ghost use Rattle.wah_words.specs.Front.{IsFront};
 
-use crate::block::BLOCK_WORDS;
 use crate::run::{Run, is_literal};
+
+// The words that are measured at a time.
+const SPAN_WORDS: usize = 32;
+
+const _: () = prove!(SPAN_WORDS == 32);
 
 /// Words from the front of others: how many they are, and how many groups they have.
 #[derive(Clone, Copy)]
@@ -20,9 +24,9 @@ pub(crate) struct Front {
 pub(crate) fn front_within(words: &[u32], most: u32) -> Front
     ensures { IsFront words.now most result.words result.groups }
 {
-    let blocks = blocks_within(words, most);
-    let mut groups = blocks.groups;
-    for at in blocks.words..words.len() {
+    let spans = spans_within(words, most);
+    let mut groups = spans.groups;
+    for at in spans.words..words.len() {
         let count = Run::of_word(words[at]).count;
         if count > most - groups {
             return Front { words: at, groups };
@@ -35,50 +39,54 @@ pub(crate) fn front_within(words: &[u32], most: u32) -> Front
     }
 }
 
-// The same by whole blocks alone.
-fn blocks_within(words: &[u32], most: u32) -> Front
+// The same by whole spans alone.
+fn spans_within(words: &[u32], most: u32) -> Front
     ensures { IsFront words.now most result.words result.groups }
 {
     let mut at = 0;
     let mut groups = 0;
     let mut rest = words;
     for _ in 0..words.len() {
-        let Some((block, after)) = rest.split_first_chunk::<BLOCK_WORDS>() else {
+        // Each word has a group.
+        if most - groups < SPAN_WORDS as u32 {
+            break;
+        }
+        let Some((span, after)) = rest.split_first_chunk::<SPAN_WORDS>() else {
             break;
         };
-        let more = block_groups(block);
+        let more = span_groups(span);
         if more > u64::from(most - groups) {
             break;
         }
         groups += more as u32;
-        at += BLOCK_WORDS;
+        at += SPAN_WORDS;
         rest = after;
     }
     Front { words: at, groups }
 }
 
-// How many groups a block has.
+// How many groups a span has.
 #[inline(always)]
-fn block_groups(block: &[u32; BLOCK_WORDS]) -> u64
-    ensures { result ≡ length (groups_of block.now) }
+fn span_groups(span: &[u32; SPAN_WORDS]) -> u64
+    ensures { result ≡ length (groups_of span.now) }
 {
-    if are_literals(block) {
-        return BLOCK_WORDS as u64;
+    if are_literals(span) {
+        return SPAN_WORDS as u64;
     }
     let mut groups = 0u64;
-    for word in block {
+    for word in span {
         groups += u64::from(Run::of_word(*word).count);
     }
     groups
 }
 
-// Whether all words of a block are literals.
+// Whether all words of a span are literals.
 #[inline(always)]
-fn are_literals(block: &[u32; BLOCK_WORDS]) -> bool
-    ensures { IsTrue result → (k : ℕ) → k < length block.now → slice_index block.now k < 2 ^ 31 }
+fn are_literals(span: &[u32; SPAN_WORDS]) -> bool
+    ensures { IsTrue result → (k : ℕ) → k < length span.now → slice_index span.now k < 2 ^ 31 }
 {
     let mut bits = 0;
-    for word in block {
+    for word in span {
         bits |= *word;
     }
     is_literal(bits)

@@ -9,22 +9,23 @@
 //! - `Wah::from_words`: a bitvector exactly where the words are canonical for that many rows (`canonical`), and then
 //!   the list that they spell (`list`), of that length (`rows`).
 //! - `Wah::and`, `or`, `xor`, `not`: the operation on each row. `extended`: the list, and false after it.
+//! - `Wah::toggled`: the list, and false after it, with the rows at some places turned and no others.
 //! - `Wah::count`, `len`: how many rows are true, and how many there are.
 //! - `Wah::words`: the words spell the list (`spelling`), and group k of the words is that of the list (`each_group`).
 //! - `one_spelling`: words that spell one list are the same words, and words spell one list of a length alone.
 //! - `Run::of_word`, `is_literal`: what one word stands for.
+//! - `laws`: lists, operations and counts group by group, turned rows, and exactly which lists have a spelling.
 //! - Lists that a call is lent stay as they are, and every call returns.
 //!
 //! # Only tested
 //!
-//! - That each call that may answer `Memory` succeeds, on lists of up to 130,000 rows.
-//! - The words of the form's own examples, in both directions.
+//! - That each call that may answer `Memory` succeeds, on lists of up to 130,000 rows, and the form's own examples.
 //!
 //! # Not said
 //!
 //! - When there is no memory: `Memory` is free. A call that answers it has let go of what it took.
-//! - Time, and how few words a list takes. An operation takes a step for each run of either list.
-//! - Room: a result's vector may be longer than its words.
+//! - Time and room, and how few words a list takes. An operation takes a step for each run of either list, and
+//!   `toggled` one for each place and the time of a copy of the words.
 //!
 //! # Example
 //!
@@ -34,6 +35,7 @@
 //! let both = a.and(alloc, &b)?;
 //! let either = a.or(alloc, &b)?;
 //! assert!(rt; (both.count(), either.count()) == (1, 3));
+//! let longer = a.toggled(alloc, &[0, 3], 5)?;    // false, false, true, true, false
 //! ```
 #![tactic(auto)]
 
@@ -43,6 +45,7 @@ mod complement;
 mod count;
 mod cursor;
 mod front;
+pub mod laws;
 mod operation;
 mod places;
 mod run;

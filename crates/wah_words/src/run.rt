@@ -2,7 +2,7 @@
 ghost use Rattle.std.specs.Prelude.{◌≡◌, ◌<◌, ◌≤◌, ◌+◌, ◌-◌, ◌^◌, ◌++◌, ◌↔◌, IsTrue, false, not, length, map, replicate};
 ghost use Rattle.wah_words.specs.Group.{IsUniform, filled, group_count as groups_for, group_rows};
 ghost use Rattle.wah_words.specs.Rows.{cleared};
-ghost use Rattle.wah_words.specs.Word.{run_group, run_count};
+ghost use Rattle.wah_words.specs.Word.{run_group, run_count, turned_word};
 ghost use Rattle.wah_words.specs.Canonical.{IsCanonical, IsCountedFill, IsMixedLiteral};
 
 /// The rows of a group.
@@ -96,9 +96,7 @@ pub(crate) fn fill_word(value: bool, count: u32) -> u32
 
 /// The word of the same kind whose rows are the others.
 pub(crate) fn word_complement(word: u32) -> u32
-    ensures fill { (2 ^ 31 ≤ result) ↔ (2 ^ 31 ≤ word) }
-    ensures count { run_count result ≡ run_count word }
-    ensures group { run_group result + run_group word ≡ 2 ^ 31 - 1 }
+    ensures { result ≡ turned_word word }
 {
     word ^ if word < FALSE_FILL {
         ALL_TRUE

@@ -9,6 +9,9 @@ use crate::builder::Builder;
 use crate::front::front_within;
 use crate::run::Run;
 
+// Fewer groups are sooner written run by run than measured.
+const MEASURED_GROUPS: u32 = 8;
+
 /// Groups that are left to read: the rest of a run, the words after it, and groups of false rows after these.
 #[derive(Drop)]
 pub(crate) struct Source<'a> {
@@ -34,6 +37,7 @@ impl<'a> Source<'a> {
     }
 
     // Goes on to the next run where the run has ended.
+    #[inline(always)]
     fn refill(&mut self)
         ensures same { source_left self.new ≡ source_left self.old }
         ensures end { self.new.run.count ≡ 0 → source_left self.new ≡ [] }
@@ -66,7 +70,8 @@ impl<'a> Source<'a> {
         requires within { mask < 2 ^ 31 }
         requires some { 1 ≤ length (source_left self.old) }
         requires room { length out.old + length (source_left self.old) < 2 ^ 30 }
-        ensures { OnOk result (Moves out.old (first_toggled mask (source_left self.old)) out.new (source_left self.new) 1) }
+        ensures { OnOk result (Moves out.old (first_toggled mask (source_left self.old))
+            out.new (source_left self.new) 1) }
     {
         self.refill();
         out.push_group(self.run.group ^ mask)?;
@@ -93,9 +98,10 @@ impl<'a> Source<'a> {
     fn move_words(&mut self, out: &mut Builder, most: u32) -> Result<u32, Memory>
         requires { length out.old + length (source_left self.old) < 2 ^ 30 }
         ensures most { IfOk result (λ count. count ≤ most) }
-        ensures moved { IfOk result (λ count. Moves out.old (source_left self.old) out.new (source_left self.new) count) }
+        ensures moved { IfOk result (λ count. Moves out.old (source_left self.old)
+            out.new (source_left self.new) count) }
     {
-        if self.run.count != 0 || most == 0 {
+        if self.run.count != 0 || most < MEASURED_GROUPS {
             return Ok(0);
         }
         let front = front_within(self.words, most);
@@ -106,13 +112,15 @@ impl<'a> Source<'a> {
     }
 
     // Writes groups of one run, as many as it has and at most so many, and gives how many they are.
+    #[inline(always)]
     fn move_run(&mut self, out: &mut Builder, most: u32) -> Result<u32, Memory>
         requires some { 1 ≤ most }
         requires enough { most ≤ length (source_left self.old) }
         requires room { length out.old + length (source_left self.old) < 2 ^ 30 }
         ensures most { IfOk result (λ count. count ≤ most) }
         ensures some { IfOk result (λ count. 1 ≤ count) }
-        ensures moved { IfOk result (λ count. Moves out.old (source_left self.old) out.new (source_left self.new) count) }
+        ensures moved { IfOk result (λ count. Moves out.old (source_left self.old)
+            out.new (source_left self.new) count) }
     {
         self.refill();
         let count = self.run.count.min(most);

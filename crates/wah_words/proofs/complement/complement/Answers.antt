@@ -9,8 +9,8 @@ use Rattle.wah_words.proofs.Words.{AreRuns-front, counted_last, some_run, groups
 use Rattle.wah_words.proofs.Pointwise.{length-turned}
 use Rattle.wah_words.proofs.complement.complement.Goals as goal
 
-pub from_slice-requires : goal.from_slice-requires
-from_slice-requires c =
+pub turned-requires : goal.turned-requires
+turned-requires c =
     AreRuns-front c.in-Some.front.now c.in-Some.last.now (subst AreRuns c.in-Some.ensures.cases.0 c.requires.runs)
 
 pub push_last_complement-requires-clause-fill : goal.push_last_complement-requires-clause-fill
@@ -31,20 +31,16 @@ push_last_complement-requires-clause-size c =
     let size : length (groups c.in-Some.front.now) + run_count c.in-Some.last.now ≡ group_count c.args.rows =
     sym (length-groups-push c.in-Some.front.now c.in-Some.last.now)
     ∙ ap (λ words. length (groups words)) (sym c.in-Some.ensures.cases.0) ∙ c.requires.size in
-    let turned : unpacked c.turn.new.self ≡ map not (unpacked (groups c.in-Some.front.now)) =
-    c.turn.ensures ∙ ap (λ out. map not (unpacked out)) c.in_ok-out.ensures in
-    omega (arith, length-turned c.turn.new.self (groups c.in-Some.front.now) turned)
+    omega (arith, length-turned c.in_ok-out.out (groups c.in-Some.front.now) c.in_ok-out.ensures)
 
 pub returns : goal.returns
 returns c =
     let front = groups c.in-Some.front.now in
     let run = replicate (run_count c.in-Some.last.now) (run_group c.in-Some.last.now) in
-    let turned : unpacked c.turn.new.self ≡ map not (unpacked front) =
-    c.turn.ensures ∙ ap (λ out. map not (unpacked out)) c.in_ok-out.ensures in
     let whole : front ++ run ≡ groups c.args.words.now =
     sym (groups-push c.in-Some.front.now c.in-Some.last.now) ∙ ap groups (sym c.in-Some.ensures.cases.0) in
     c.in_ok-push_last_complement.ensures
-    ∙ ap (λ rows. cleared c.args.rows (rows ++ map not (unpacked run))) turned
+    ∙ ap (λ rows. cleared c.args.rows (rows ++ map not (unpacked run))) c.in_ok-out.ensures
     ∙ ap (cleared c.args.rows) (sym (map-append not (unpacked front) (unpacked run)))
     ∙ ap (λ rows. cleared c.args.rows (map not rows)) (sym (flat_map-append group_rows front run))
     ∙ ap (λ gs. cleared c.args.rows (map not (unpacked gs))) whole

@@ -7,7 +7,7 @@ pub loop-word-preserved : goal.loop-word-preserved
 loop-word-preserved c = λ k within.
     let bits = c.loop-word.bits in
     let i = c.loop-word.word-index in
-    let word = get_or c.args.block.now i 0 in
+    let word = get_or c.args.span.now i 0 in
     elim (cases_lt k i) [
       | inl before ↦ omega (arith, c.loop-word.invariant k before, le_or_l bits word)
       | inr past ↦

@@ -3,7 +3,8 @@ use Rattle.std.proofs.lemmas.List.{length-append, length-replicate}
 use Rattle.wah_words.specs.Group.{group_count}
 use Rattle.wah_words.specs.Source.{source_left}
 use Rattle.wah_words.specs.Word.{groups}
-use Rattle.wah_words.proofs.Toggled.{rows_toggled, toggled_all, toggled_none, toggled_on}
+use Rattle.wah_words.proofs.Toggled.{toggled_all, toggled_none, toggled_on}
+use Rattle.wah_words.proofs.ToggledRows.{rows_toggled}
 use Rattle.wah_words.proofs.toggle.toggled.Goals as goal
 
 pub loop-place-init : goal.loop-place-init

@@ -18,57 +18,65 @@ fn toggled(
     Ok(wah.toggled(alloc, places, rows)?)
 }
 
+fn has_words(
+    rt: &impl Abort,
+    alloc: Global,
+    wah: &Wah,
+    places: &[u32],
+    rows: u32,
+    expected: &[u32],
+) -> Result<(), Fail> {
+    let new = toggled(rt, alloc, wah, places, rows)?;
+    assert_eq!(rt; new.words(), expected);
+    assert_eq!(rt; new.len(), rows);
+    Ok(())
+}
+
 #[test]
-fn rows_of_words_are_turned(rt: HostRuntime) -> Result<(), Fail> {
-    for (words, old_rows, places, rows, expected) in [
-        (&[][..], 0, &[][..], 0, &[][..]),
-        (&[], 0, &[], 63, &[0x8000_0003]),
-        (&[], 0, &[62], 63, &[0x8000_0002, 0x0000_0001]),
-        (&[0x0000_001f], 5, &[], 36, &[0x0000_001f, 0x8000_0001]),
-        (&[0x0000_001f], 5, &[5, 40], 62, &[0x0000_003f, 0x0000_0200]),
+fn rows_of_runs_are_turned(rt: HostRuntime) -> Result<(), Fail> {
+    for (words, rows, places, expected) in [
+        (&[][..], 0, &[][..], &[][..]),
         (
             &[0x8000_0003],
             93,
             &[40],
-            93,
             &[0x8000_0001, 0x0000_0200, 0x8000_0001],
         ),
         (
             &[0xc000_0003],
             93,
             &[40],
-            93,
             &[0xc000_0001, 0x7fff_fdff, 0xc000_0001],
         ),
         (
             &[0x8000_0004],
             124,
             &[0, 123],
-            124,
             &[0x0000_0001, 0x8000_0002, 0x4000_0000],
         ),
-        (
-            &[0x8000_0001, 0x0000_0008, 0x8000_0001],
-            93,
-            &[34],
-            93,
-            &[0x8000_0003],
-        ),
+        (&[0x8000_0001, 0x8, 0x8000_0001], 93, &[34], &[0x8000_0003]),
         (
             &[0xc000_0001, 0x7fff_fff7, 0xc000_0001],
             93,
             &[34],
-            93,
             &[0xc000_0003],
         ),
-        (&[0x0000_0007], 31, &[0, 1, 30], 31, &[0x4000_0004]),
-        (
-            &[0xc000_0001, 0x0000_001f],
-            36,
-            &[35],
-            36,
-            &[0xc000_0001, 0x0000_000f],
-        ),
+        (&[0x0000_0007], 31, &[0, 1, 30], &[0x4000_0004]),
+        (&[0xc000_0001, 0x1f], 36, &[35], &[0xc000_0001, 0x0f]),
+    ] {
+        let wah = wah_of_words(rt.alloc(), words, rows)?;
+        has_words(&rt, rt.alloc(), &wah, places, rows, expected)?;
+    }
+    Ok(())
+}
+
+#[test]
+fn rows_past_the_end_are_turned(rt: HostRuntime) -> Result<(), Fail> {
+    for (words, old_rows, places, rows, expected) in [
+        (&[][..], 0, &[][..], 63, &[0x8000_0003][..]),
+        (&[], 0, &[62], 63, &[0x8000_0002, 0x0000_0001]),
+        (&[0x0000_001f], 5, &[], 36, &[0x0000_001f, 0x8000_0001]),
+        (&[0x0000_001f], 5, &[5, 40], 62, &[0x0000_003f, 0x0000_0200]),
         (
             &[0xc000_0001, 0x0000_0010],
             36,
@@ -78,9 +86,7 @@ fn rows_of_words_are_turned(rt: HostRuntime) -> Result<(), Fail> {
         ),
     ] {
         let wah = wah_of_words(rt.alloc(), words, old_rows)?;
-        let new = toggled(&rt, rt.alloc(), &wah, places, rows)?;
-        assert_eq!(rt; new.words(), expected);
-        assert_eq!(rt; new.len(), rows);
+        has_words(&rt, rt.alloc(), &wah, places, rows, expected)?;
     }
     Ok(())
 }

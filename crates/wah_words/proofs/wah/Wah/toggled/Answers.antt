@@ -3,7 +3,7 @@ use Rattle.std.proofs.lemmas.List.{length-take-le}
 use Rattle.wah_words.specs.Group.{unpacked}
 use Rattle.wah_words.specs.Rows.{IsToggled}
 use Rattle.wah_words.proofs.Spelled.{length-spelled_rows, length-unpacked}
-use Rattle.wah_words.proofs.Toggled.{padding_toggled, take_toggled}
+use Rattle.wah_words.proofs.ToggledRows.{padding_toggled, take_toggled}
 use Rattle.wah_words.proofs.wah.Wah.toggled.Goals as goal
 
 pub toggled-requires-clause-longer : goal.toggled-requires-clause-longer
