@@ -1,15 +1,14 @@
 -- Blocks of literals beside literals.
-use Rattle.std.proofs.Common.{◌≡◌, ℕ, zero, suc, ◌-◌, ◌^◌, ◌<◌, ◌∙◌, Bool, List, [], ◌∷◌, ◌++◌, length, get_or, take, drop, replicate, refl, sym, ap, subst, arith}
-use Rattle.std.proofs.lemmas.List.{append-nil, append_assoc, length-append}
+use Rattle.std.proofs.Common.{◌≡◌, ℕ, zero, suc, ◌^◌, ◌<◌, ◌∙◌, Bool, List, [], ◌∷◌, ◌++◌, length, get_or, take, drop, replicate, refl, sym, ap, arith}
+use Rattle.std.proofs.lemmas.List.{append_assoc, length-append}
 use Rattle.std.proofs.lemmas.List.Concat.{flat_map-append}
 use Rattle.wah_words.specs.Group.{group_rows, unpacked}
 use Rattle.wah_words.specs.Rows.{pointwise}
 use Rattle.wah_words.specs.Word.{word_groups, groups}
-use Rattle.wah_words.specs.Canonical.{AreRuns}
 use Rattle.wah_words.specs.Walk.{Continues, AreMixed, IsBlock}
 use Rattle.wah_words.proofs.Pointwise.{pointwise-append}
 use Rattle.wah_words.proofs.Spelled.{length-group_rows, length-unpacked}
-use Rattle.wah_words.proofs.Words.{AreRuns-push, groups-cons, groups-split, run_count-literal, run_group-literal}
+use Rattle.wah_words.proofs.Words.{groups-cons, groups-split, run_count-literal, run_group-literal}
 
 -- literals are their own groups
 pub groups-literals : (words : List ℕ) → ((k : ℕ) → k < length words → get_or words k 0 < 2 ^ 31) → groups words ≡ words

@@ -28,7 +28,8 @@ mask-take_padded n p [] = mask-take_false n p ∙ sym (mask-take_nil n)
 mask-take_padded zero p (row ∷ rows) = refl
 mask-take_padded (suc n) p (row ∷ rows) = ap (λ rest. cond row 1 0 + 2 * rest) (mask-take_padded n p rows)
 
-mask-drop_padded : (n m p : ℕ) (rows : List Bool)
+-- false rows behind a list add nothing to its groups
+pub mask-drop_padded : (n m p : ℕ) (rows : List Bool)
     → mask_l (take n (drop m (rows ++ replicate p false))) ≡ mask_l (take n (drop m rows))
 mask-drop_padded n zero p rows = mask-take_padded n p rows
 mask-drop_padded n (suc m) zero [] = refl
@@ -38,7 +39,7 @@ mask-drop_padded n (suc m) p (row ∷ rows) = mask-drop_padded n m p rows
 -- ---- groups
 
 -- each group is read back from its rows
-group_from_rows : (gs : List ℕ) (k : ℕ) → All (λ g. g < 2 ^ 31) gs → get_or gs k 0 ≡ group_at (unpacked gs) k
+pub group_from_rows : (gs : List ℕ) (k : ℕ) → All (λ g. g < 2 ^ 31) gs → get_or gs k 0 ≡ group_at (unpacked gs) k
 unfolding group_rows
 group_from_rows [] k each = sym (ap (λ rest. mask_l (take 31 rest)) (drop-nil (31 * k)))
 group_from_rows (g ∷ gs) zero each =

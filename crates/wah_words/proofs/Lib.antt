@@ -1,8 +1,12 @@
 pub mod Bits
 pub mod Blocks
 pub mod Counted
+pub mod Fences
+pub mod Finished
 pub mod Groups
 pub mod Marks
+pub mod Paged
+pub mod PagesOfLists
 pub mod Pointwise
 pub mod Reading
 pub mod Results
@@ -10,3 +14,4 @@ pub mod Spelled
 pub mod Turned
 pub mod Unique
 pub mod Words
+pub mod Written

@@ -154,7 +154,7 @@ group_rows-mod group n within = low_bits-mod 31 n group within
     ∙ ap (λ long. take n (low_bits 31 group) ++ replicate (long - n) false) (sym (length-low_bits 31 group))
 
 -- a list that is false everywhere
-false_list : (list : List Bool) → All (λ row. row ≡ false) list → list ≡ replicate (length list) false
+pub false_list : (list : List Bool) → All (λ row. row ≡ false) list → list ≡ replicate (length list) false
 false_list [] each = refl
 false_list (row ∷ list) each =
     ap (λ x. x ∷ list) (All-head (λ row. row ≡ false) row list each)

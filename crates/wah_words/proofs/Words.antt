@@ -112,7 +112,7 @@ set_last ws n w long some = set_split ws (n - 1) w (omega arith)
     ∙ ap (λ rest. take (n - 1) ws ++ w ∷ rest) (drop_all (suc (n - 1)) ws (omega arith))
 
 -- a fill that counts some groups more
-run_group-grown : (fill count : ℕ) → 2 ^ 31 ≤ fill → fill % 2 ^ 30 + count < 2 ^ 30
+pub run_group-grown : (fill count : ℕ) → 2 ^ 31 ≤ fill → fill % 2 ^ 30 + count < 2 ^ 30
     → run_group (fill + count) ≡ run_group fill
 run_group-grown fill count above room =
     let head : (fill + count) / 2 ^ 30 ≡ fill / 2 ^ 30 = omega arith in
@@ -214,7 +214,8 @@ counted_last front last runs =
     rw (get_or_push front last 0 (length front) refl) at (runs.fills (length front) 0
     (omega (arith, length_push front last)))
 
-apart_last : (front : List ℕ) (last : ℕ) → AreRuns (front ++ last ∷ []) → 0 < length front
+-- the word before the last is no fill of its value
+pub apart_last : (front : List ℕ) (last : ℕ) → AreRuns (front ++ last ∷ []) → 0 < length front
     → AreApart (get_or front (length front - 1) 0) last
 apart_last front last runs some =
     rw (
@@ -223,7 +224,8 @@ apart_last front last runs some =
     )
     at (runs.neighbours (length front - 1) (omega (arith, length_push front last)))
 
-AreRuns-grown : (front : List ℕ) (last count : ℕ) → AreRuns (front ++ last ∷ []) → 2 ^ 31 ≤ last
+-- the last fill counts some groups more
+pub AreRuns-grown : (front : List ℕ) (last count : ℕ) → AreRuns (front ++ last ∷ []) → 2 ^ 31 ≤ last
     → last % 2 ^ 30 + count < 2 ^ 30 → AreRuns (front ++ (last + count) ∷ [])
 AreRuns-grown front last count runs above room =
     AreRuns-push front (last + count) (AreRuns-front front last runs)

@@ -1,6 +1,6 @@
 use Rattle.std.proofs.Common.{◌≡◌, ◌+◌, ◌-◌, ◌++◌, ◌∙◌, ℕ, [], sym, ap, subst, arith, drop, get_or, replicate}
 use Rattle.wah_words.specs.Word.{groups, run_count, run_group}
-use Rattle.fence_window.specs.Place.{groups_from}
+use Rattle.wah_words.specs.Place.{groups_from}
 use Rattle.fence_window.specs.Ors.{OrsRun}
 use Rattle.fence_window.proofs.Ors.{IsOringAt, oring_none, oring_more, oring_ended}
 use Rattle.fence_window.proofs.Places.{groups-drop, groups-drop_all, drop_part}

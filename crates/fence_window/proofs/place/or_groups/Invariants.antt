@@ -1,6 +1,6 @@
 use Rattle.std.proofs.Common.{drop}
 use Rattle.wah_words.specs.Word.{groups}
-use Rattle.fence_window.specs.Place.{groups_from}
+use Rattle.wah_words.specs.Place.{groups_from}
 use Rattle.fence_window.proofs.Ors.{IsOringAt}
 use Rattle.fence_window.proofs.place.or_groups.Given as goal
 
