@@ -6,10 +6,10 @@ use mir.Syntax.{w32}
 use mir.Val.{Fits}
 use Rattle.std.proofs.lemmas.Bool.{cases_lt}
 use Rattle.wah_words.specs.Word.{groups, run_group, run_count}
-use Rattle.fence_window.specs.declared.place.Place.{Place}
+use Rattle.wah_words.specs.declared.place.Place.{Place}
 use Rattle.wah_words.specs.Canonical.{AreWords, Spells}
-use Rattle.fence_window.specs.Place.{groups_from, IsAfter, AreFences, HasFences}
-use Rattle.fence_window.specs.Window.{page_count}
+use Rattle.wah_words.specs.Place.{groups_from, IsAfter, AreFences, HasFences}
+use Rattle.wah_words.specs.Place.{page_count}
 use Rattle.fence_window.proofs.Places.{groups-drop, groups-drop_all, drop_part}
 
 -- a place further on

@@ -1,3 +1,2 @@
 pub mod Ors
-pub mod Place
 pub mod Window

@@ -1,10 +1,6 @@
 -- The pages of a list of truth values: 3,968 rows to a page, as 128 groups of 31 rows.
-use Rattle.std.specs.Prelude.{ℕ, ◌≡◌, ◌+◌, ◌*◌, ◌/◌, ◌<◌, Bool, List, slice_index}
+use Rattle.std.specs.Prelude.{ℕ, ◌≡◌, ◌+◌, ◌*◌, ◌<◌, Bool, List, slice_index}
 use Rattle.wah_words.specs.Group.{group_at}
-
--- the pages of so many rows
-abbrev pub page_count : ℕ → ℕ
-page_count rows = (rows + 3967) / 3968
 
 -- the numbers are the groups of that page
 abbrev pub IsWindow : List Bool → ℕ → List ℕ → Type 0

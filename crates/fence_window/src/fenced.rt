@@ -1,24 +1,19 @@
 //! Bitvectors with a fence for each page.
-ghost use Rattle.std.specs.Prelude.{ℕ, ◌≡◌, ◌+◌, ◌*◌, ◌<◌, IfOk, length, slice_get, slice_index, bit_or};
-ghost use Rattle.wah_words.specs.Group.{group_at};
-ghost use Rattle.fence_window.specs.Place.{HasFences};
+ghost use Rattle.std.specs.Prelude.{ℕ, ◌≡◌, ◌+◌, ◌*◌, ◌<◌, IfOk, length, take, slice_get, slice_index, bit_or};
+ghost use Rattle.wah_words.specs.Group.{group_at, unpacked};
+ghost use Rattle.wah_words.specs.Place.{ArePagesOf, HasFences};
 ghost use Rattle.fence_window.specs.Window.{IsWindow};
 
 use crate::Memory;
-use crate::place::{Place, advanced, or_groups};
+use crate::place::{advanced, or_groups};
 use std::alloc::Global;
 use std::marker::Model;
-use wah_words::{GROUP_ROWS, Run, Wah, one_spelling};
+use wah_words::{GROUP_ROWS, PAGE_GROUPS, PAGE_ROWS, PageWriter, Place, Run, Wah, one_spelling};
 
-// The groups of a page, and the length of the array that takes them.
-const PAGE_GROUPS: u32 = 128;
-/// The rows of a page.
-pub const PAGE_ROWS: u32 = PAGE_GROUPS * GROUP_ROWS;
+/// The groups of the pages that are read at once.
+pub const BLOCK_GROUPS: usize = 32 * PAGE_GROUPS;
 
-// The numbers of the definition of a page.
-const _: () = prove!(PAGE_GROUPS == 128);
-
-const _: () = prove!(PAGE_ROWS == 3_968);
+const _: () = prove!(BLOCK_GROUPS == 4_096);
 
 /// A bitvector whose pages are reached without a walk from its first word; contracts see its list.
 #[derive(Drop)]
@@ -32,7 +27,7 @@ impl Model for Fenced {
 
     ghost Value = { List Bool };
 
-    ghost use Rattle.fence_window.specs.Place.{HasFences};
+    ghost use Rattle.wah_words.specs.Place.{ArePagesOf, HasFences};
 
     ghost view = { λ f. f.wah };
 
@@ -48,6 +43,15 @@ impl Fenced {
         Ok(Fenced { wah, fences })
     }
 
+    /// The bitvector whose pages were written, of so many rows, with its fences. It takes no pass.
+    pub fn from_pages(pages: PageWriter, rows: u32) -> Result<Fenced, Memory>
+        requires { ArePagesOf pages rows }
+        ensures { IfOk result (λ fenced. fenced ≡ take rows (unpacked pages)) }
+    {
+        let (wah, fences) = pages.finish(rows)?;
+        Ok(Fenced { wah, fences })
+    }
+
     /// The bitvector.
     pub fn wah(&self) -> &Wah
         ensures { result.now ≡ self.now }
@@ -56,7 +60,7 @@ impl Fenced {
     }
 
     /// Writes the groups of a page, and 0 where there are none. It takes no memory.
-    pub fn window(&self, page: u32, out: &mut [u32; 128])
+    pub fn window(&self, page: u32, out: &mut [u32; PAGE_GROUPS])
         ensures { IsWindow self.now page out.new }
     {
         out.fill(0);
@@ -69,7 +73,7 @@ impl Fenced {
 
     /// Puts the groups of 32 pages from the first on into the numbers, by or; past the last page nothing changes. It
     /// takes no memory.
-    pub fn or_into(&self, first: u32, out: &mut [u32; 4096])
+    pub fn or_into(&self, first: u32, out: &mut [u32; BLOCK_GROUPS])
         ensures { (i : ℕ) → i < 4096 → slice_index out.new i
             ≡ bit_or (slice_index out.old i) (group_at self.now (128 * first + i)) }
     {
@@ -87,8 +91,8 @@ impl Fenced {
     {
         let group = row / GROUP_ROWS;
         let words = self.wah.words();
-        let fence = self.fences[(group / PAGE_GROUPS) as usize];
-        let place = advanced(words, fence, group % PAGE_GROUPS);
+        let fence = self.fences[group as usize / PAGE_GROUPS];
+        let place = advanced(words, fence, group % PAGE_GROUPS as u32);
         (Run::of_word(words[place.word]).group >> (row % GROUP_ROWS)) & 1 == 1
     }
 }
@@ -107,7 +111,7 @@ fn fences_of(alloc: Global, wah: &Wah) -> Result<Vec<Place>, Memory>
     };
     for _page in 0..pages {
         fences.push(place)?;
-        place = advanced(words, place, PAGE_GROUPS);
+        place = advanced(words, place, PAGE_GROUPS as u32);
     }
     Ok(fences)
 }

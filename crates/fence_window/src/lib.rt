@@ -31,5 +31,5 @@
 mod fenced;
 mod place;
 
-pub use fenced::{Fenced, PAGE_ROWS};
-pub use wah_words::Memory;
+pub use fenced::{BLOCK_GROUPS, Fenced};
+pub use wah_words::{Memory, PAGE_GROUPS, PAGE_ROWS, PageWriter};

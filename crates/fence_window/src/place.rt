@@ -1,17 +1,10 @@
 //! Places in words.
 ghost use Rattle.std.specs.Prelude.{◌≡◌, ◌+◌, ◌<◌, ◌≤◌, ◌^◌, IsTrue, All, drop, length, replicate, slice_index};
 ghost use Rattle.wah_words.specs.Word.{groups, run_count, run_group, word_groups};
-ghost use Rattle.fence_window.specs.Place.{groups_from};
+ghost use Rattle.wah_words.specs.Place.{groups_from};
 ghost use Rattle.fence_window.specs.Ors.{OrsFrom, OrsAt};
 
-use wah_words::{Run, TRUE_FILL, is_literal};
-
-/// A word, and how many groups of its run lie before the place.
-#[derive(Clone, Copy)]
-pub(crate) struct Place {
-    pub(crate) word: usize,
-    pub(crate) skipped: u32,
-}
+use wah_words::{Place, Run, TRUE_FILL, is_literal};
 
 /// The place so many groups further on, or the end of the words.
 pub(crate) fn advanced(words: &[u32], place: Place, groups: u32) -> Place

@@ -88,7 +88,7 @@ mask-push [] bit = omega arith
 mask-push (first ∷ bits) true = omega (arith, mask-push bits true, pow-suc 2 (length bits))
 mask-push (first ∷ bits) false = omega (arith, mask-push bits false)
 
-mask-false : (bits : List Bool) → All (λ row. row ≡ false) bits → mask_l bits ≡ 0
+pub mask-false : (bits : List Bool) → All (λ row. row ≡ false) bits → mask_l bits ≡ 0
 mask-false [] each = refl
 mask-false (bit ∷ bits) each =
     rw (All-head (λ row. row ≡ false) bit bits each, mask-false bits (All-tail (λ row. row ≡ false) bit bits each)) refl

@@ -3,10 +3,14 @@ pub mod Blocks
 pub mod Counted
 pub mod Fits
 pub mod Fronts
+pub mod Fences
+pub mod Finished
 pub mod Groups
 pub mod GroupLaws
 pub mod Marks
 pub mod Moves
+pub mod Paged
+pub mod PagesOfLists
 pub mod Pointwise
 pub mod Reading
 pub mod Results
@@ -18,3 +22,4 @@ pub mod ToggledRows
 pub mod Turned
 pub mod Unique
 pub mod Words
+pub mod Written

@@ -102,7 +102,7 @@ drop-last_group front g rows size some =
     ∙ drop-group_rows g (rows % 31) (omega arith)
 
 -- the groups of words end in the group of the last word
-ends_in : (words : List ℕ) (i : ℕ) → i + 1 ≡ length words → IsCountedFill (get_or words i 0)
+pub ends_in : (words : List ℕ) (i : ℕ) → i + 1 ≡ length words → IsCountedFill (get_or words i 0)
     → (front : List ℕ) × (groups words ≡ front ++ run_group (get_or words i 0) ∷ [])
 ends_in words i last counted =
     let w = get_or words i 0 in

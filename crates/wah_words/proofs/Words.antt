@@ -215,7 +215,8 @@ counted_last front last runs =
     rw (get_or_push front last 0 (length front) refl) at (runs.fills (length front) 0
     (omega (arith, length_push front last)))
 
-apart_last : (front : List ℕ) (last : ℕ) → AreRuns (front ++ last ∷ []) → 0 < length front
+-- the word before the last is no fill of its value
+pub apart_last : (front : List ℕ) (last : ℕ) → AreRuns (front ++ last ∷ []) → 0 < length front
     → AreApart (get_or front (length front - 1) 0) last
 apart_last front last runs some =
     rw (
@@ -224,7 +225,8 @@ apart_last front last runs some =
     )
     at (runs.neighbours (length front - 1) (omega (arith, length_push front last)))
 
-AreRuns-grown : (front : List ℕ) (last count : ℕ) → AreRuns (front ++ last ∷ []) → 2 ^ 31 ≤ last
+-- the last fill counts some groups more
+pub AreRuns-grown : (front : List ℕ) (last count : ℕ) → AreRuns (front ++ last ∷ []) → 2 ^ 31 ≤ last
     → last % 2 ^ 30 + count < 2 ^ 30 → AreRuns (front ++ (last + count) ∷ [])
 AreRuns-grown front last count runs above room =
     AreRuns-push front (last + count) (AreRuns-front front last runs)

@@ -3,6 +3,8 @@ pub mod Cursor
 pub mod Front
 pub mod Group
 pub mod Moves
+pub mod Pages
+pub mod Place
 pub mod Rows
 pub mod Source
 pub mod Sum

@@ -47,6 +47,8 @@ mod cursor;
 mod front;
 pub mod laws;
 mod operation;
+mod pages;
+mod place;
 mod places;
 mod run;
 mod source;
@@ -54,6 +56,8 @@ mod toggle;
 mod wah;
 mod walk;
 
+pub use pages::{PageWriter, pages_of_list};
+pub use place::{PAGE_GROUPS, PAGE_ROWS, Place};
 pub use run::{GROUP_ROWS, Run, TRUE_FILL, is_literal};
 pub use std::alloc::AllocError as Memory;
 pub use wah::{Wah, one_spelling};

@@ -15,8 +15,8 @@ pub(crate) const FALSE_FILL: u32 = 0x8000_0000;
 pub const TRUE_FILL: u32 = 0xc000_0000;
 // The bit of a fill that is the value of its rows.
 const VALUE_BIT: u32 = 0x4000_0000;
-// The bits of a fill that count its groups.
-const COUNT_BITS: u32 = 0x3fff_ffff;
+/// The bits of a fill that count its groups.
+pub(crate) const COUNT_BITS: u32 = 0x3fff_ffff;
 
 // The numbers of the form, which the definitions say in powers of two.
 const _: () = prove!(GROUP_ROWS == 31);

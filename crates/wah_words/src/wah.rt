@@ -169,6 +169,15 @@ impl Wah {
         }
     }
 
+    /// The list that canonical words spell.
+    pub(crate) fn of_words(words: Vec<u32>, rows: u32) -> Wah
+        requires { IsCanonical words.items rows }
+        ensures list { result ≡ take rows (unpacked (groups_of words.items)) }
+        ensures fit { AreWords words.items }
+    {
+        Wah { words, rows }
+    }
+
     /// The number of rows.
     pub fn len(&self) -> u32
         ensures { result ≡ length self.now }

@@ -1,7 +1,7 @@
 use Rattle.std.proofs.Common.{◌≡◌, ◌+◌, ◌*◌, refl, sym, ap, subst, arith, length, List, ℕ}
 use Rattle.std.proofs.lemmas.List.{length_push}
-use Rattle.fence_window.specs.declared.place.Place.{Place}
-use Rattle.fence_window.specs.Place.{AreFences, IsAfter}
+use Rattle.wah_words.specs.declared.place.Place.{Place}
+use Rattle.wah_words.specs.Place.{AreFences, IsAfter}
 use Rattle.fence_window.proofs.Fences.{AreFences-none, AreFences-push, HasFences-of, after_none, after_more, words_from_fits}
 use Rattle.fence_window.proofs.fenced.fences_of.Goals as goal
 

@@ -1,6 +1,6 @@
 use Rattle.std.proofs.Common.{◌≡◌, ◌*◌, length}
 use Rattle.wah_words.specs.Canonical.{AreWords}
-use Rattle.fence_window.specs.Place.{AreFences, IsAfter}
+use Rattle.wah_words.specs.Place.{AreFences, IsAfter}
 use Rattle.fence_window.proofs.fenced.fences_of.Given as goal
 
 abbrev pub invariant-loop-page : goal.invariant-loop-page

@@ -1,7 +1,7 @@
 use Rattle.std.proofs.Common.{ℕ, List, take, ◌≡◌, ◌+◌, ◌-◌, ◌++◌, ◌∙◌, [], sym, ap, subst, arith, drop, get_or, length, replicate}
 use Rattle.std.proofs.lemmas.List.{length-drop, length-replicate, take_all}
 use Rattle.wah_words.specs.Word.{groups, run_count, run_group}
-use Rattle.fence_window.specs.Place.{groups_from}
+use Rattle.wah_words.specs.Place.{groups_from}
 use Rattle.fence_window.specs.Ors.{OrsFrom, OrsAt}
 use Rattle.fence_window.proofs.Ors.{ors_from, ors_none, ors_append}
 use Rattle.fence_window.proofs.Places.{groups-drop, groups-drop_all, drop_part}

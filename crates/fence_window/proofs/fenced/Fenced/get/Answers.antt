@@ -2,7 +2,7 @@ use Rattle.std.proofs.Common.{◌≡◌, ◌+◌, ◌*◌, ◌/◌, ◌%◌, ◌
 use Rattle.std.specs.Prelude.{Some}
 use Rattle.std.proofs.lemmas.Nat.{and_mask}
 use Rattle.wah_words.specs.Word.{groups, run_group}
-use Rattle.fence_window.specs.Place.{IsAfter}
+use Rattle.wah_words.specs.Place.{IsAfter}
 use Rattle.wah_words.specs.Group.{group_at}
 use Rattle.fence_window.proofs.Windows.{row_from_group}
 use Rattle.fence_window.proofs.Fences.{fence_at, after_more, within_from_after, group_from_after}

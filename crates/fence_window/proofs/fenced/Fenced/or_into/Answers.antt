@@ -2,7 +2,7 @@ use Rattle.std.proofs.Common.{◌+◌, ◌*◌, ◌∙◌, sym, ap, arith, lengt
 use Rattle.std.specs.Prelude.{bit_or}
 use Rattle.std.proofs.lemmas.List.{get_or-drop}
 use Rattle.wah_words.specs.Word.{groups}
-use Rattle.fence_window.specs.Place.{IsAfter}
+use Rattle.wah_words.specs.Place.{IsAfter}
 use Rattle.wah_words.specs.Group.{group_at}
 use Rattle.fence_window.proofs.Windows.{group_at-past}
 use Rattle.fence_window.proofs.Fences.{fence_at}
