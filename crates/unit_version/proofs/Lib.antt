@@ -1,0 +1,5 @@
+mod Entries
+mod KeyedRows
+mod PackedWords
+mod PageTuples
+mod Rising

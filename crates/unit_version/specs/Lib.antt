@@ -1,0 +1,6 @@
+pub mod Content
+pub mod Entry
+pub mod KeyedRow
+pub mod Packed
+pub mod Search
+pub mod Unit
