@@ -50,7 +50,7 @@ Has-keyed rest (e ∷ entries) (suc i) d within = inr (Has-keyed rest entries i 
 code_of-key : (rest code : ℕ) → rest < 64 → code_of (key_of_code rest code) ≡ code
 code_of-key rest code low = omega arith
 
-key_of-code : (key : KeyValue) → key.line < 8 → key_of_code (key.order % 64) (code_of key) ≡ key
+pub key_of-code : (key : KeyValue) → key.line < 8 → key_of_code (key.order % 64) (code_of key) ≡ key
 key_of-code key low =
     let order : (key.order / 64 * 8 + key.line) / 8 * 64 + key.order % 64 ≡ key.order = omega arith in
     let line : (key.order / 64 * 8 + key.line) % 8 ≡ key.line = omega arith in

@@ -1,14 +1,21 @@
 //! Key pages: the live rows of some keys, kept in the order of keys so that one is found fast.
-ghost use Rattle.std.specs.Prelude.{◌≡◌, ◌+◌, ◌*◌, ◌/◌, ◌%◌, ◌<◌, ◌≤◌, ◌^◌};
-ghost use Rattle.unit_version.specs.KeyedRow.{row_of_key};
-ghost use Rattle.unit_version.specs.Entry.{code_of};
+ghost use Rattle.std.specs.Prelude.{◌≡◌, ◌<◌, map, IfOk};
+ghost use Rattle.cubit_base.specs.LiveRow.{HasDistinctLiveKeys};
+ghost use Rattle.unit_version.specs.KeyedRow.{row_of_key, by_row, AreApart, AreKeyPages};
+ghost use Rattle.unit_version.specs.Entry.{keyed};
 
 mod entry;
+mod order;
 mod search;
+mod split;
 
-use cubit_base::{Key, Tuple};
+use crate::Memory;
+use cubit_base::{Key, Table, Tuple};
 use entry::{Entry, code_of, rest_of};
+use order::{sort, tops_of};
 use search::place_of;
+use split::{KEY_PAGES, split};
+use std::alloc::Global;
 use std::marker::Model;
 
 /// The live rows of the keys whose order leaves one rest by 64; contracts see them in the order of rows.
@@ -47,4 +54,34 @@ impl Keys {
         let entry = &self.entries[place];
         Some((entry.row, entry.tuple.tuple()))
     }
+
+    // The key page of entries in any order.
+    fn of_entries(alloc: Global, rest: u8, entries: Vec<Entry>) -> Result<Keys, Memory>
+        requires low { rest < 64 }
+        requires apart { AreApart (map (keyed rest) entries.items) }
+        ensures { IfOk result (λ keys. keys ≡ by_row (map (keyed rest) entries.items)) }
+    {
+        let mut entries = entries;
+        sort(&mut entries);
+        let tops = tops_of(alloc, &entries)?;
+        Ok(Keys {
+            rest,
+            entries,
+            tops,
+        })
+    }
+}
+
+/// The key pages of a table, by their rests. It takes one pass over the rows, and a sort where their keys do not rise.
+pub(crate) fn key_pages(alloc: Global, table: &Table) -> Result<Vec<Keys>, Memory>
+    requires { HasDistinctLiveKeys table.now }
+    ensures { IfOk result (λ pages. AreKeyPages table.now 64 pages.items) }
+{
+    let mut lists = split(alloc, table)?;
+    let mut pages = Vec::with_capacity(alloc, usize::from(KEY_PAGES))?;
+    for rest in 0..KEY_PAGES {
+        let entries = lists.remove(0);
+        pages.push(Keys::of_entries(alloc, rest, entries)?)?;
+    }
+    Ok(pages)
 }
