@@ -20,6 +20,13 @@ IsUpTo numbers n place = 0 < place → slice_index numbers (place - 1) ≤ n
 abbrev pub IsBelow : List ℕ → ℕ → ℕ → Type 0
 IsBelow numbers n place = place < length numbers → n < slice_index numbers place
 
+-- the place of n lies from one place to another
+pub record IsBetween (numbers : List ℕ) (n first last : ℕ) : Type 0 where
+  pub order : first ≤ last
+  pub within : last ≤ length numbers
+  pub low : IsUpTo numbers n first
+  pub high : IsBelow numbers n last
+
 -- n lies at this place
 pub record IsNear (numbers : List ℕ) (n place : ℕ) : Type 0 where
   pub within : place ≤ length numbers
