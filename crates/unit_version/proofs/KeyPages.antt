@@ -1,12 +1,11 @@
 -- The live rows of a table by the pages of their keys.
-use Rattle.std.proofs.Common.{◌≡◌, ℕ, zero, suc, ◌+◌, ◌%◌, ◌<◌, false, ◌==◌, nat_lt, List, [], ◌∷◌, ◌++◌, length, get_or, slice_get, Some, None, refl, sym, ap, ◌∙◌, inl, inr, arith}
-use Rattle.std.proofs.lemmas.Bool.{cases_Bool, cases_eq}
+use Rattle.std.proofs.Common.{◌≡◌, ℕ, zero, suc, ◌+◌, ◌%◌, ◌<◌, false, ◌==◌, nat_lt, List, [], ◌∷◌, length, get_or, slice_get, Some, None, refl, sym, ap, ◌∙◌, inl, inr, arith}
+use Rattle.std.proofs.lemmas.Bool.{cases_Bool}
 use Rattle.std.proofs.lemmas.Bool.Decides.{nat_tests}
-use Rattle.std.proofs.lemmas.List.{length_push}
 use Rattle.std.proofs.lemmas.Option.{slice_get_within, get_or_from_slice_get}
 use Rattle.cubit_base.specs.Table.{Row}
 use Rattle.cubit_base.specs.LiveRow.{HasDistinctLiveKeys}
-use Rattle.unit_version.specs.KeyedRow.{KeyedRow, keyed_from, with_keyed, by_row, AreApart, AreKeyPages}
+use Rattle.unit_version.specs.KeyedRow.{KeyedRow, keyed_from, with_keyed, by_row, AreApart}
 use Rattle.unit_version.proofs.KeyedRows.{Has, Rises}
 use Rattle.unit_version.proofs.SortedCodes.{Has-get_or}
 
@@ -93,26 +92,3 @@ by_row-Rises (r ∷ rows) up = ap (with_keyed r) (by_row-Rises rows up.1) ∙ fi
 
 pub by_row-keyed_from : (rest : ℕ) (table : List Row) → by_row (keyed_from rest 0 table) ≡ keyed_from rest 0 table
 by_row-keyed_from rest table = by_row-Rises (keyed_from rest 0 table) (Rises-keyed_from rest 0 table)
-
--- what stands in a list with one more at its end
-slice_get-before : {X : Type 0} (xs : List X) (y : X) (k : ℕ) → k < length xs
-    → slice_get (xs ++ y ∷ []) k ≡ slice_get xs k
-slice_get-before [] y k within = absurd (omega arith)
-slice_get-before (x ∷ xs) y zero within = refl
-slice_get-before (x ∷ xs) y (suc k) within = slice_get-before xs y k (omega arith)
-
-slice_get-last : {X : Type 0} (xs : List X) (y : X) → slice_get (xs ++ y ∷ []) (length xs) ≡ Some y
-slice_get-last [] y = refl
-slice_get-last (x ∷ xs) y = slice_get-last xs y
-
--- one page more
-pub AreKeyPages-more : (table : List Row) (n : ℕ) (pages : List (List KeyedRow)) → AreKeyPages table n pages
-    → AreKeyPages table (n + 1) (pages ++ keyed_from n 0 table ∷ [])
-AreKeyPages-more table n pages are = record {
-  long = length_push pages (keyed_from n 0 table) ∙ ap (λ k. k + 1) are.long;
-  each = λ rest low. elim (cases_eq rest n) [
-    | inl last ↦ rw (last, ← are.long) (slice_get-last pages (keyed_from (length pages) 0 table))
-    | inr earlier ↦ slice_get-before pages (keyed_from n 0 table) rest (omega (arith, are.long))
-        ∙ are.each rest (omega arith)
-  ];
-}

@@ -1,5 +1,5 @@
 -- What each unit holds over a table.
-use Rattle.std.specs.Prelude.{ℕ, zero, suc, ◌+◌, ◌*◌, Bool, false, List, [], ◌∷◌, map, is_some, Option, Some, None}
+use Rattle.std.specs.Prelude.{◌≡◌, ◌<◌, length, slice_get, ℕ, zero, suc, ◌+◌, ◌*◌, Bool, false, List, [], ◌∷◌, map, is_some, Option, Some, None}
 use Rattle.cubit_base.specs.Tuple.{TupleValue}
 use Rattle.cubit_base.specs.Table.{Row}
 use Rattle.cubit_base.specs.LiveRow.{tuple_at}
@@ -37,3 +37,8 @@ content_of unit.Live table = content.Bits (map is_live table)
 content_of (unit.Bin column bin) table = content.Bits (map (is_in_bins column (one_bin bin)) table)
 content_of (unit.Page page) table = content.Page (tuples_from table (3968 * page) 3968)
 content_of (unit.Keys rest) table = content.Keys (keyed_from rest 0 table)
+
+-- what the first n units of a kind hold
+pub record AreContents (kind : ℕ → IndexUnit) (table : List Row) (n : ℕ) (contents : List Content) : Type 0 where
+  pub long : length contents ≡ n
+  pub each : (k : ℕ) → k < n → slice_get contents k ≡ Some (content_of (kind k) table)

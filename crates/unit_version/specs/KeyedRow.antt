@@ -1,5 +1,5 @@
 -- Live rows under their keys.
-use Rattle.std.specs.Prelude.{◌≡◌, ◌≢◌, ◌<◌, AllPairs, length, slice_get, ℕ, ◌+◌, ◌%◌, ◌==◌, nat_lt, if◌then◌else◌, List, [], ◌∷◌, Option, Some, None}
+use Rattle.std.specs.Prelude.{◌≢◌, AllPairs, ℕ, ◌+◌, ◌%◌, ◌==◌, nat_lt, if◌then◌else◌, List, [], ◌∷◌, Option, Some, None}
 use Rattle.cubit_base.specs.Key.{KeyValue, same_key}
 use Rattle.cubit_base.specs.Tuple.{TupleValue}
 use Rattle.cubit_base.specs.Table.{Row}
@@ -36,8 +36,3 @@ by_row (r ∷ rows) = with_keyed r (by_row rows)
 -- no two are of one row, or of one key
 abbrev pub AreApart : List KeyedRow → Type 0
 AreApart rows = AllPairs (λ a b. (a.row ≢ b.row) × (a.key ≢ b.key)) rows
-
--- for each of the first n pages of keys, its live rows of a table in the order of rows
-pub record AreKeyPages (table : List Row) (n : ℕ) (pages : List (List KeyedRow)) : Type 0 where
-  pub long : length pages ≡ n
-  pub each : (rest : ℕ) → rest < n → slice_get pages rest ≡ Some (keyed_from rest 0 table)

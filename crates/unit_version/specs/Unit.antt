@@ -12,5 +12,5 @@ IsUnit pages (unit.Page page) = page < pages
 IsUnit pages (unit.Keys page) = page < 64
 
 -- how many these are: 1, 150, the pages and 64
-abbrev pub units : ℕ → ℕ
-units pages = 215 + pages
+abbrev pub unit_count : ℕ → ℕ
+unit_count pages = 215 + pages

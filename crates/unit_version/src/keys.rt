@@ -1,15 +1,17 @@
 //! Key pages: the live rows of some keys, kept in the order of keys so that one is found fast.
 ghost use Rattle.std.specs.Prelude.{◌≡◌, ◌<◌, map, IfOk};
 ghost use Rattle.cubit_base.specs.LiveRow.{HasDistinctLiveKeys};
-ghost use Rattle.unit_version.specs.KeyedRow.{row_of_key, by_row, AreApart, AreKeyPages};
+ghost use Rattle.unit_version.specs.KeyedRow.{row_of_key, by_row, AreApart};
+ghost use Rattle.unit_version.specs.Content.{AreContents};
 ghost use Rattle.unit_version.specs.Entry.{keyed};
+ghost use Rattle.unit_version.specs.declared.unit.Unit.TheVariants as unit;
 
 mod entry;
 mod order;
 mod search;
 mod split;
 
-use crate::Memory;
+use crate::{Content, Memory};
 use cubit_base::{Key, Table, Tuple};
 use entry::{Entry, code_of, rest_of};
 use order::{sort, tops_of};
@@ -73,15 +75,15 @@ impl Keys {
 }
 
 /// The key pages of a table, by their rests. It takes one pass over the rows, and a sort where their keys do not rise.
-pub(crate) fn key_pages(alloc: Global, table: &Table) -> Result<Vec<Keys>, Memory>
+pub(crate) fn key_pages(alloc: Global, table: &Table) -> Result<Vec<Content>, Memory>
     requires { HasDistinctLiveKeys table.now }
-    ensures { IfOk result (λ pages. AreKeyPages table.now 64 pages.items) }
+    ensures { IfOk result (λ pages. AreContents unit.Keys table.now 64 pages.items) }
 {
     let mut lists = split(alloc, table)?;
     let mut pages = Vec::with_capacity(alloc, usize::from(KEY_PAGES))?;
     for rest in 0..KEY_PAGES {
         let entries = lists.remove(0);
-        pages.push(Keys::of_entries(alloc, rest, entries)?)?;
+        pages.push(Content::Keys(Keys::of_entries(alloc, rest, entries)?))?;
     }
     Ok(pages)
 }

@@ -1,6 +1,8 @@
 use Rattle.std.proofs.Common.{◌∙◌, sym, ap, subst, arith}
 use Rattle.unit_version.specs.KeyedRow.{by_row, AreApart}
-use Rattle.unit_version.proofs.KeyPages.{AreApart-keyed_from, by_row-keyed_from, AreKeyPages-more}
+use Rattle.unit_version.proofs.KeyPages.{AreApart-keyed_from, by_row-keyed_from}
+use Rattle.unit_version.proofs.Contents.{AreContents-more}
+use Rattle.unit_version.specs.declared.unit.Unit.TheVariants as unit
 use Rattle.unit_version.proofs.SplitRows.{first-list, other-lists}
 use Rattle.unit_version.proofs.keys.key_pages.Goals as goal
 
@@ -25,6 +27,6 @@ loop-rest-preserved c =
       left = omega (arith, c.loop-rest.invariant.left, c.remove-entries.ensures.len);
       lists = rw c.remove-entries.ensures.items
           (other-lists table rest c.loop-rest.lists.items (omega arith) c.loop-rest.invariant.lists);
-      made = rw (c.in_ok-push.ensures.items, made) (AreKeyPages-more table rest c.loop-rest.pages.items
+      made = rw (c.in_ok-push.ensures.items, made) (AreContents-more unit.Keys table rest c.loop-rest.pages.items
           c.loop-rest.invariant.made);
     }
