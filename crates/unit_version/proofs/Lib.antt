@@ -1,0 +1,10 @@
+mod Contents
+mod Entries
+mod KeyPages
+mod KeyedRows
+mod PackedWords
+mod PageTuples
+mod Rising
+mod RowBits
+mod SortedCodes
+mod SplitRows

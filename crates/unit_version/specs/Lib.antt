@@ -1,0 +1,10 @@
+pub mod Base
+pub mod BaseValue
+pub mod Content
+pub mod Entry
+pub mod KeyedRow
+pub mod Packed
+pub mod RowBins
+pub mod Search
+pub mod Split
+pub mod Unit

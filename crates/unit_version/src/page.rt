@@ -1,0 +1,67 @@
+//! Pages of tuples.
+ghost use Rattle.std.specs.Prelude.{◌≡◌, ◌+◌, ◌*◌, ◌<◌, ◌≤◌, slice_get, Some, IfOk};
+ghost use Rattle.cubit_base.specs.LiveRow.{tuple_at};
+ghost use Rattle.cubit_base.specs.declared.table.TheConstants.{ROW_LIMIT};
+ghost use Rattle.unit_version.specs.Content.{tuples_from};
+
+use crate::Memory;
+use crate::packed::Slot;
+use cubit_base::{Steps, Table, Tuple};
+use fence_window::PAGE_ROWS;
+use std::alloc::Global;
+use std::marker::Model;
+use std::sync::ledger::Ledger;
+
+/// The tuples of 3,968 rows, in a word each; contracts see, for each row, its tuple or none.
+#[derive(Drop)]
+pub struct Page {
+    slots: Vec<Slot>,
+}
+
+impl Model for Page {
+    ghost use Rattle.std.specs.Prelude.{◌≡◌, List, Option, length};
+    ghost use Rattle.cubit_base.specs.Tuple.{TupleValue};
+
+    ghost Value = { List (Option TupleValue) };
+
+    ghost view = { λ p. p.slots.items };
+
+    ghost invariant = { λ p. length p.slots.items ≡ 3_968 };
+}
+
+impl Page {
+    /// The tuple of the row at this place of the page, or none where the row is not live and past the last row. It
+    /// counts one read whatever it answers, and is the only way from a page to a tuple.
+    pub fn get<N: Ledger>(&self, at: u16, reads: &mut Steps<N>) -> Option<Tuple>
+        requires { at < 3_968 }
+        ensures value { slice_get self.now at ≡ Some result }
+        ensures reads { reads.new ≡ reads.old + 1 }
+    {
+        reads.tick(1);
+        self.slots[usize::from(at)].tuple()
+    }
+
+    /// The page with this number of a table's rows.
+    pub(crate) fn of_table(alloc: Global, table: &Table, page: u32) -> Result<Page, Memory>
+        requires { 3_968 * page ≤ ROW_LIMIT }
+        ensures { IfOk result (λ p. p ≡ tuples_from table.now (3_968 * page) 3_968) }
+    {
+        let mut slots = Vec::with_capacity(alloc, PAGE_ROWS as usize)?;
+        let first = PAGE_ROWS * page;
+        for at in 0..PAGE_ROWS {
+            slots.push(slot_of(table, first + at))?;
+        }
+        Ok(Page { slots })
+    }
+}
+
+// The tuple of a row, or none.
+#[inline(always)]
+fn slot_of(table: &Table, row: u32) -> Slot
+    ensures { result ≡ tuple_at table.now row }
+{
+    match table.row(row) {
+        Some((_, tuple)) => Slot::new(&tuple),
+        None => Slot::new(&None),
+    }
+}
