@@ -220,7 +220,10 @@ has_place places row (k, within, at) =
 
 -- a row that is one of the places
 pub has_contains : (places : List ℕ) (row : ℕ) → IsTrue (has places row) ↔ Contains places row
-has_contains places row = (λ is. some_place places row (Any-from_list_any (λ place. eqb place row) places is), has_place places row)
+has_contains places row = (
+  λ is. some_place places row (Any-from_list_any (λ place. eqb place row) places is),
+  has_place places row,
+)
 
 -- a list by the rows that were turned
 pub same_toggled : (old : List Bool) (places : List ℕ) (a b : List Bool) → length a ≡ length b → IsToggled old places a
