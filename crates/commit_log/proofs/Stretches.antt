@@ -1,5 +1,5 @@
 -- The deltas between two lengths of a log.
-use Rattle.std.proofs.Common.{◌≡◌, ◌≢◌, ℕ, zero, suc, ◌+◌, ◌-◌, ◌≤◌, true, false, ◌&&◌, cond, eqb, List, [], ◌∷◌, ◌++◌, length, take, drop, get_or, slice_get, Option, Some, None, sym, ap, ◌∙◌, subst, arith, ⊎_elim}
+use Rattle.std.proofs.Common.{◌≡◌, ◌≢◌, ℕ, zero, suc, ◌+◌, ◌-◌, ◌≤◌, true, false, ◌&&◌, cond, eqb, eq-eqb, List, [], ◌∷◌, ◌++◌, length, take, drop, get_or, slice_get, Option, Some, None, sym, ap, ◌∙◌, subst, arith, ⊎_elim}
 use Rattle.std.specs.Option.{option_map}
 use Rattle.std.proofs.lemmas.Grind.{common_steps}
 use Rattle.std.proofs.lemmas.Bool.Decides.{eqb_tells}
@@ -23,13 +23,15 @@ between-next log from to delta le at =
     let within = slice_get_within log to delta at in
     let long = length-take-le to log (omega arith) in
     ap (drop from)
-    (take_more log to delta within ∙ ap (λ (x : Delta). take to log ++ x ∷ []) (get_or_from_slice_get log to delta delta at))
+    (take_more log to delta within
+    ∙ ap (λ (x : Delta). take to log ++ x ∷ []) (get_or_from_slice_get log to delta delta at))
     ∙ drop-append-le from (take to log) (delta ∷ []) (omega arith)
 
 -- a prefix and the stretch behind it
 pub between-parts : (log : List Delta) (from to : ℕ) → from ≤ to → take from log ++ between from to log ≡ take to log
 between-parts log from to le =
-    ap (λ (x : List Delta). x ++ between from to log) (sym (take-take from to log le)) ∙ take-append-drop from (take to log)
+    ap (λ (x : List Delta). x ++ between from to log) (sym (take-take from to log le))
+    ∙ take-append-drop from (take to log)
 
 other-key : (a b : KeyValue) → a ≢ b → same_key a b ≡ false
 other-key a b other = ⊎_elim
@@ -41,13 +43,10 @@ other-key a b other = ⊎_elim
     (eqb_tells a.order b.order)
 
 same-key : (a b : KeyValue) → a ≡ b → same_key a b ≡ true
-same-key a b same = ap (λ (x : KeyValue). same_key x b) same ∙ refl-key b
-  where
-    refl-key : (k : KeyValue) → same_key k k ≡ true
-    refl-key k = ⊎_elim
-        (λ order. ⊎_elim (λ line. λ i. order.0 i && line.0 i) (λ line. absurd (line.1 (λ _. k.line))) (eqb_tells k.line k.line))
-        (λ order. absurd (order.1 (λ _. k.order)))
-        (eqb_tells k.order k.order)
+same-key a b same =
+    let order = eq-eqb a.order b.order (ap (λ (k : KeyValue). k.order) same) in
+    let line = eq-eqb a.line b.line (ap (λ (k : KeyValue). k.line) same) in
+    λ i. order i && line i
 
 -- what was found stays the last where the rest has none
 none-last : (log : List Delta) (key : KeyValue) (from start n : ℕ) (found : Option Delta) → from ≤ start →

@@ -18,10 +18,18 @@ pub(crate) fn update<L: CommitLog, N: Ledger>(
     steps: &mut Steps<N>,
 ) -> Result<Front, AppendStop>
     requires at { Stands L.terms (L.handle log.old).seen at.now }
-    requires live { slice_get (after L.terms.base (take at.now.len (L.handle log.old).seen)) row ≡ Some (key, Some tuples.0) }
+    requires live { slice_get (after L.terms.base (take at.now.len (L.handle log.old).seen)) row
+        ≡ Some (key, Some tuples.0) }
     requires spare { 1 ≤ (L.handle log.old).spare }
-    ensures append { Appends L.terms (L.handle log.old) at.now (record { author = (L.handle log.old).author; row = row; key = key; before = Some tuples.0; after = Some tuples.1 }) (L.handle log.new) result }
-    ensures live { IfOk result (λ front. slice_get (after L.terms.base (take front.len (L.handle log.new).seen)) row ≡ Some (key, Some tuples.1)) }
+    ensures append { Appends L.terms (L.handle log.old) at.now (record {
+      author = (L.handle log.old).author;
+      row = row;
+      key = key;
+      before = Some tuples.0;
+      after = Some tuples.1;
+    }) (L.handle log.new) result }
+    ensures live { IfOk result (λ front. slice_get (after L.terms.base (take front.len (L.handle log.new).seen)) row
+        ≡ Some (key, Some tuples.1)) }
     ensures log { IsLog L.terms (L.handle log.new).seen }
     ensures steps { RisesWithin (append_steps result) steps.old steps.new }
 {

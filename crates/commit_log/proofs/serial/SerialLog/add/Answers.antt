@@ -33,15 +33,17 @@ invariant_of-self g c =
     ap (λ n. n + added) s.now_is ∙ sym count
     ∙ sym (ap (λ (t : List Row). length t) (c.histories.ensures.join base h (d ∷ []))) in
     let entries : c.push_reserved-2.new.self.items ≡ v.entries.items ++ logged_of d rows ∷ [] =
-    c.push_reserved-2.ensures.items ∙ ap (λ (x : Logged). v.entries.items ++ x ∷ []) c.new-stored.ensures in
+    ◌∙◌ {A = List Logged} c.push_reserved-2.ensures.items
+    (ap (λ (x : Logged). v.entries.items ++ x ∷ []) c.new-stored.ensures) in
+    let order : c.order.result ≡ d.key.order =
+    c.order.ensures ∙ ap (λ (x : Logged). x.key.order) c.new-stored.ensures in
     let orders : c.push_reserved.new.self.items ≡ v.orders.items ++ d.key.order ∷ [] =
-    c.push_reserved.ensures.items
-    ∙ ap (λ n. v.orders.items ++ n ∷ []) (c.order.ensures ∙ ap (λ (x : Logged). x.key.order) c.new-stored.ensures) in
-    let serial : IsSerial terms c.push_reserved-2.new.self.items c.push_reserved.new.self.items v.base_rows rows v.limits =
+    ◌∙◌ {A = List ℕ} c.push_reserved.ensures.items (ap (λ n. v.orders.items ++ n ∷ []) order) in
+    let serial =
     subst (λ (x : List Logged × List ℕ). IsSerial terms x.0 x.1 v.base_rows rows v.limits)
     (λ i. (sym entries i, sym orders i))
-    (serial-snoc terms v.entries.items v.orders.items v.base_rows v.rows v.limits s d rows
-    c.requires.author room history now) in
+    (serial-snoc terms v.entries.items v.orders.items v.base_rows v.rows v.limits s d rows c.requires.author room
+    history now) in
     let some = c.requires.spare in
     let spare : v.spare ≡ c.args.self.now.spare = ap (λ (x : SerialValue). x.spare) c.self.view_is in
     let r1 = c.self.invariant.1.room in

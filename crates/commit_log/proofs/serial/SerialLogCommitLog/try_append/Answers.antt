@@ -14,5 +14,5 @@ returns-clause-append g c =
     let last : c.args.at.now.len ≡ length c.args.self.now.seen = omega arith in
     let full = c.if-at-self.false in
     let limit = ap (λ (x : Limits). x.log_limit) c.self.invariant.0.limits_are in
-    appended terms c.args.self.now c.add.new.self c.args.at.now c.whole.result c.args.delta.now (omega arith) last c.add.ensures
-    c.requires.author c.whole.ensures.whole
+    appended terms c.args.self.now c.add.new.self c.args.at.now c.whole.result c.args.delta.now (omega arith) last
+    c.add.ensures c.requires.author c.whole.ensures.whole
