@@ -1,12 +1,12 @@
 -- What the kernels make.
-use Rattle.std.specs.Prelude.{ℕ, ◌≡◌, Bool, ◌&&◌, ◌||◌, not, map, List, [], All, length, slice_index_or}
-use Rattle.wah_words.specs.Rows.{differs, pointwise, true_count}
+use Rattle.std.specs.Prelude.{ℕ, zero, suc, ◌≡◌, ◌+◌, ◌-◌, ◌*◌, ◌/◌, ◌^◌, ◌++◌, ◌∷◌, min, replicate, false, Bool, ◌&&◌, ◌||◌, not, map, List, [], All, length, slice_index_or}
+use Rattle.wah_words.specs.Rows.{IsToggled, differs, pointwise, true_count}
 use Rattle.fence_window.specs.Window.{page_count}
 use Rattle.kernel_bench.specs.Pages.{IsXor, IsSelectedOf, block_count}
 use Rattle.kernel_bench.specs.declared.kernel.Kernel.{Kernel}
-use Rattle.kernel_bench.specs.declared.kernel.Kernel.TheVariants.{And, Or, Xor, Not, Count, Window, Select}
+use Rattle.kernel_bench.specs.declared.kernel.Kernel.TheVariants.{And, Or, Xor, Not, Count, Extended, Toggled, Make, Window, Select}
 use Rattle.kernel_bench.specs.declared.kernel.Outcome.{Outcome}
-use Rattle.kernel_bench.specs.declared.kernel.Outcome.TheVariants.{List as AList, Number}
+use Rattle.kernel_bench.specs.declared.kernel.Outcome.TheVariants.{List as AList, Pages, Number}
 
 -- how many lists the kernel reads
 abbrev pub input_count : Kernel → ℕ
@@ -15,6 +15,9 @@ input_count Or = 2
 input_count Xor = 2
 input_count Not = 1
 input_count Count = 1
+input_count Extended = 1
+input_count Toggled = 1
+input_count Make = 1
 input_count Window = 1
 input_count Select = 38
 
@@ -26,6 +29,20 @@ AreOfLength rows lists = All (λ list. length list ≡ rows) lists
 abbrev pub list_at : List (List Bool) → ℕ → List Bool
 list_at lists k = slice_index_or lists k []
 
+-- the list, and a page of false rows after it, as far as lists go
+abbrev pub with_page : List Bool → List Bool
+with_page list = list ++ replicate (min (length list + 3968) (2 ^ 32 - 1) - length list) false
+
+-- the first n multiples of 65,536
+abbrev pub multiples : ℕ → List ℕ
+multiples zero = []
+multiples (suc n) = multiples n ++ 65_536 * n ∷ []
+
+-- each of these rows is turned
+pub record IsTurned (old new : List Bool) : Type 0 where
+  pub long : length new ≡ length old
+  pub rows : IsToggled old (multiples ((length old + 65_535) / 65_536)) new
+
 -- what the kernel makes of the lists
 abbrev pub Makes : Kernel → List (List Bool) → Outcome → Type 0
 Makes And lists outcome = outcome ≡ AList (pointwise ◌&&◌ (list_at lists 0) (list_at lists 1))
@@ -33,6 +50,10 @@ Makes Or lists outcome = outcome ≡ AList (pointwise ◌||◌ (list_at lists 0)
 Makes Xor lists outcome = outcome ≡ AList (pointwise differs (list_at lists 0) (list_at lists 1))
 Makes Not lists outcome = outcome ≡ AList (map not (list_at lists 0))
 Makes Count lists outcome = outcome ≡ Number (true_count (list_at lists 0))
+Makes Extended lists outcome = outcome ≡ AList (with_page (list_at lists 0))
+Makes Toggled lists outcome =
+    (list : List Bool) × (outcome ≡ AList list) × IsTurned (list_at lists 0) list
+Makes Make lists outcome = outcome ≡ Pages (list_at lists 0)
 Makes Window lists outcome =
     (xor : ℕ) × (outcome ≡ Number xor) × IsXor (list_at lists 0) (page_count (length (list_at lists 0))) xor
 Makes Select lists outcome =

@@ -4,6 +4,7 @@ ghost use Rattle.kernel_bench.specs.Checksum.{Adds, AddsWords};
 ghost use Rattle.kernel_bench.specs.Mix.{stirred};
 
 use crate::kernel::Outcome;
+use crate::pages::xor_of;
 use std::fmt;
 
 /// How many words went in, and a mix of them in their order.
@@ -21,12 +22,17 @@ impl Checksum {
         Checksum { words: 0, mix: 0 }
     }
 
-    /// Puts in the words of an outcome; a number is one word.
+    /// Puts in the words of an outcome; a number is one word. Behind the words of a list with fences goes the exclusive
+    /// or of its pages.
     pub(crate) fn add(&mut self, outcome: &Outcome)
         ensures { Adds self.old self.new outcome.now }
     {
         match outcome {
             Outcome::List(list) => self.add_words(list.words()),
+            Outcome::Pages(list) => {
+                self.add_words(list.wah().words());
+                self.add_number(u64::from(xor_of(list)));
+            }
             Outcome::Number(number) => self.add_number(*number),
         }
     }

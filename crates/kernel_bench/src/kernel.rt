@@ -1,12 +1,17 @@
 //! The kernels.
-ghost use Rattle.std.specs.Prelude.{◌≡◌, IfOk, length};
+ghost use Rattle.std.specs.Prelude.{◌≡◌, ◌+◌, ◌/◌, ◌<◌, All, IfOk, length};
+ghost use Rattle.std.specs.List.Sorted.{IsStrictlyIncreasing};
 ghost use Rattle.kernel_bench.specs.Pages.{IsSelectedOf, block_count};
 ghost use Rattle.kernel_bench.specs.Names.{kernel_named};
-ghost use Rattle.kernel_bench.specs.Kernel.{AreOfLength, Makes, input_count, list_at};
+ghost use Rattle.kernel_bench.specs.Kernel.{AreOfLength, Makes, IsTurned, input_count, list_at, multiples, with_page};
 
 use crate::pages::{selected, xor_of};
-use fence_window::Fenced;
+use crate::times::Times;
+use fence_window::{Fenced, PAGE_ROWS};
 use std::alloc::Global;
+use std::io;
+use std::rt::Clock;
+use std::time::Instant;
 use wah_words::{Memory, Wah};
 
 // The bins that a query reads of each column.
@@ -23,6 +28,11 @@ const _: () = prove!(MONTHS == 12);
 
 const _: () = prove!(DISCOUNTS == 3);
 
+// Every so many rows one is turned.
+const TOGGLE_ROWS: u32 = 65_536;
+
+const _: () = prove!(TOGGLE_ROWS == 65_536);
+
 /// An operation to measure.
 #[derive(Clone, Copy)]
 pub(crate) enum Kernel {
@@ -31,6 +41,12 @@ pub(crate) enum Kernel {
     Xor,
     Not,
     Count,
+    /// A page of false rows more.
+    Extended,
+    /// One row in 65,536 turned.
+    Toggled,
+    /// The fences of a list.
+    Make,
     /// All groups, page by page.
     Window,
     /// The rows that a query selects, page by page: those that a bin of each of three columns has.
@@ -41,6 +57,7 @@ pub(crate) enum Kernel {
 #[derive(Drop)]
 pub(crate) enum Outcome {
     List(Wah),
+    Pages(Fenced),
     Number(u64),
 }
 
@@ -55,6 +72,9 @@ impl Kernel {
             "xor" => Some(Kernel::Xor),
             "not" => Some(Kernel::Not),
             "count" => Some(Kernel::Count),
+            "extended" => Some(Kernel::Extended),
+            "toggled" => Some(Kernel::Toggled),
+            "make" => Some(Kernel::Make),
             "window" => Some(Kernel::Window),
             "select" => Some(Kernel::Select),
             _ => None,
@@ -67,28 +87,92 @@ impl Kernel {
     {
         match self {
             Kernel::And | Kernel::Or | Kernel::Xor => 2,
-            Kernel::Not | Kernel::Count | Kernel::Window => 1,
             Kernel::Select => QUANTITIES + MONTHS + DISCOUNTS,
+            _ => 1,
         }
     }
 
-    /// What the kernel makes of bitvectors.
-    pub(crate) fn outcome(self, alloc: Global, inputs: &[Fenced]) -> Result<Outcome, Memory>
+    /// What the kernel makes of bitvectors. Its own time alone is taken: what it needs beside them is made before.
+    pub(crate) fn outcome<R: Clock + AllocGlobal>(
+        self,
+        rt: &R,
+        inputs: &[Fenced],
+        times: &mut Times,
+    ) -> io::Result<Outcome>
         requires count { length inputs.now ≡ input_count self }
         requires size { AreOfLength (length (list_at inputs.now 0)) inputs.now }
         ensures { IfOk result (Makes self inputs.now) }
     {
+        let alloc = rt.alloc();
         let a = inputs[0].wah();
         Ok(match self {
-            Kernel::And => Outcome::List(a.and(alloc, inputs[1].wah())?),
-            Kernel::Or => Outcome::List(a.or(alloc, inputs[1].wah())?),
-            Kernel::Xor => Outcome::List(a.xor(alloc, inputs[1].wah())?),
-            Kernel::Not => Outcome::List(a.not(alloc)?),
-            Kernel::Count => Outcome::Number(u64::from(a.count())),
-            Kernel::Window => Outcome::Number(u64::from(xor_of(&inputs[0]))),
-            Kernel::Select => Outcome::Number(selected_of(inputs, a.len())),
+            Kernel::And => Outcome::List(timed(rt, times, || a.and(alloc, inputs[1].wah()))??),
+            Kernel::Or => Outcome::List(timed(rt, times, || a.or(alloc, inputs[1].wah()))??),
+            Kernel::Xor => Outcome::List(timed(rt, times, || a.xor(alloc, inputs[1].wah()))??),
+            Kernel::Not => Outcome::List(timed(rt, times, || a.not(alloc))??),
+            Kernel::Count => Outcome::Number(u64::from(timed(rt, times, || a.count())?)),
+            Kernel::Extended => Outcome::List(extended(rt, times, a)?),
+            Kernel::Toggled => Outcome::List(toggled(rt, times, a)?),
+            Kernel::Make => Outcome::Pages(fenced(rt, times, a)?),
+            Kernel::Window => {
+                let xor = timed(rt, times, || xor_of(&inputs[0]))?;
+                Outcome::Number(u64::from(xor))
+            }
+            Kernel::Select => {
+                let total = timed(rt, times, || selected_of(inputs, a.len()))?;
+                Outcome::Number(total)
+            }
         })
     }
+}
+
+// What a call makes, with its time among the others.
+fn timed<R: Clock, T: Drop, F: FnOnce() -> T>(rt: &R, times: &mut Times, call: F) -> io::Result<T>
+    requires { F.IsAlwaysCallable call }
+    ensures { IfOk result (λ made. F.post call made) }
+{
+    let began = Instant::now(rt)?;
+    let made = call();
+    times.add(began.elapsed(rt)?);
+    Ok(made)
+}
+
+fn extended<R: Clock + AllocGlobal>(rt: &R, times: &mut Times, list: &Wah) -> io::Result<Wah>
+    ensures { IfOk result (λ longer. longer ≡ with_page list.now) }
+{
+    let alloc = rt.alloc();
+    let rows = list.len().saturating_add(PAGE_ROWS);
+    Ok(timed(rt, times, || list.extended(alloc, rows))??)
+}
+
+fn toggled<R: Clock + AllocGlobal>(rt: &R, times: &mut Times, list: &Wah) -> io::Result<Wah>
+    ensures { IfOk result (IsTurned list.now) }
+{
+    let alloc = rt.alloc();
+    let rows = list.len();
+    let places = toggled_places(alloc, rows)?;
+    Ok(timed(rt, times, || list.toggled(alloc, &places, rows))??)
+}
+
+fn fenced<R: Clock + AllocGlobal>(rt: &R, times: &mut Times, list: &Wah) -> io::Result<Fenced>
+    ensures { IfOk result (λ fenced. fenced ≡ list.now) }
+{
+    let alloc = rt.alloc();
+    let copy = list.extended(alloc, list.len())?;
+    Ok(timed(rt, times, move || Fenced::make(alloc, copy))??)
+}
+
+// One place in so many rows.
+fn toggled_places(alloc: Global, rows: u32) -> Result<Vec<u32>, Memory>
+    ensures multiples { IfOk result (λ places. places.items ≡ multiples ((rows + 65_535) / 65_536)) }
+    ensures rising { IfOk result (λ places. IsStrictlyIncreasing places.items) }
+    ensures below { IfOk result (λ places. All (λ place. place < rows) places.items) }
+{
+    let mut places = Vec::with_capacity(alloc, rows.div_ceil(TOGGLE_ROWS) as usize)?;
+    for i in 0..rows.div_ceil(TOGGLE_ROWS) {
+        places.push(TOGGLE_ROWS * i)?;
+    }
+    Ok(places)
 }
 
 // How many of so many rows are selected by the bins of three columns.

@@ -10,7 +10,6 @@ use crate::times::Times;
 use fence_window::Fenced;
 use std::io;
 use std::rt::Clock;
-use std::time::Instant;
 
 /// Runs the kernel as often as the command says. Only the kernel's own time is taken.
 pub(crate) fn run_rounds<R: Clock + AllocGlobal>(
@@ -44,9 +43,7 @@ fn run_round<R: Clock + AllocGlobal>(
 {
     // The checksum chooses the inputs, so that no round can be foretold from the one before.
     let inputs = chosen(inputs, checksum.mix);
-    let began = Instant::now(rt)?;
-    let outcome = command.kernel.outcome(rt.alloc(), inputs)?;
-    times.add(began.elapsed(rt)?);
+    let outcome = command.kernel.outcome(rt, inputs, times)?;
     checksum.add(&outcome);
     Ok(())
 }
