@@ -1,7 +1,7 @@
 -- What goes into a checksum.
 use Rattle.std.specs.Prelude.{ℕ, ◌≡◌, ◌+◌, ◌%◌, ◌^◌, List, [], ◌∷◌, length}
 use Rattle.wah_words.specs.Canonical.{Spells}
-use Rattle.fence_window.specs.Window.{page_count}
+use Rattle.wah_words.specs.Place.{page_count}
 use Rattle.kernel_bench.specs.Pages.{IsXor}
 use Rattle.kernel_bench.specs.Mix.{mixed}
 use Rattle.kernel_bench.specs.declared.checksum.Checksum.{Checksum}

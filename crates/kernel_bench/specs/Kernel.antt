@@ -1,10 +1,10 @@
 -- What the kernels make.
 use Rattle.std.specs.Prelude.{ℕ, zero, suc, ◌≡◌, ◌+◌, ◌-◌, ◌*◌, ◌/◌, ◌^◌, ◌++◌, ◌∷◌, min, replicate, false, Bool, ◌&&◌, ◌||◌, not, map, List, [], All, length, slice_index_or}
 use Rattle.wah_words.specs.Rows.{IsToggled, differs, pointwise, true_count}
-use Rattle.fence_window.specs.Window.{page_count}
+use Rattle.wah_words.specs.Place.{page_count}
 use Rattle.kernel_bench.specs.Pages.{IsXor, IsSelectedOf, block_count}
 use Rattle.kernel_bench.specs.declared.kernel.Kernel.{Kernel}
-use Rattle.kernel_bench.specs.declared.kernel.Kernel.TheVariants.{And, Or, Xor, Not, Count, Extended, Toggled, Make, Window, Select}
+use Rattle.kernel_bench.specs.declared.kernel.Kernel.TheVariants.{And, Or, Xor, Not, Count, Extended, Toggled, Make, Build, Window, Select}
 use Rattle.kernel_bench.specs.declared.kernel.Outcome.{Outcome}
 use Rattle.kernel_bench.specs.declared.kernel.Outcome.TheVariants.{List as AList, Pages, Number}
 
@@ -18,6 +18,7 @@ input_count Count = 1
 input_count Extended = 1
 input_count Toggled = 1
 input_count Make = 1
+input_count Build = 1
 input_count Window = 1
 input_count Select = 38
 
@@ -54,6 +55,7 @@ Makes Extended lists outcome = outcome ≡ AList (with_page (list_at lists 0))
 Makes Toggled lists outcome =
     (list : List Bool) × (outcome ≡ AList list) × IsTurned (list_at lists 0) list
 Makes Make lists outcome = outcome ≡ Pages (list_at lists 0)
+Makes Build lists outcome = outcome ≡ Pages (list_at lists 0)
 Makes Window lists outcome =
     (xor : ℕ) × (outcome ≡ Number xor) × IsXor (list_at lists 0) (page_count (length (list_at lists 0))) xor
 Makes Select lists outcome =

@@ -1,7 +1,13 @@
 -- What the kernels make that read page by page.
 use Rattle.std.specs.Prelude.{ℕ, zero, suc, ◌≡◌, ◌+◌, ◌*◌, ◌/◌, ◌<◌, Bool, List, [], ◌∷◌, length, take, drop, slice_index, sum_by, bit_and, bit_or, bit_xor, count_ones}
 use Rattle.wah_words.specs.Group.{group_at}
-use Rattle.fence_window.specs.Window.{IsWindow, page_count}
+use Rattle.wah_words.specs.Place.{page_count}
+use Rattle.fence_window.specs.Window.{IsWindow}
+
+-- the groups are those of the list's first pages
+pub record AreFirstPages (list : List Bool) (pages : ℕ) (groups : List ℕ) : Type 0 where
+  pub long : length groups ≡ 128 * pages
+  pub each : (k : ℕ) → k < 128 * pages → slice_index groups k ≡ group_at list k
 
 -- a number and groups, with exclusive or
 abbrev pub xor_into : ℕ → List ℕ → ℕ

@@ -5,7 +5,7 @@ ghost use Rattle.kernel_bench.specs.Pages.{IsSelectedOf, block_count};
 ghost use Rattle.kernel_bench.specs.Names.{kernel_named};
 ghost use Rattle.kernel_bench.specs.Kernel.{AreOfLength, Makes, IsTurned, input_count, list_at, multiples, with_page};
 
-use crate::pages::{selected, xor_of};
+use crate::pages::{rewritten, selected, xor_of};
 use crate::times::Times;
 use fence_window::{Fenced, PAGE_ROWS};
 use std::alloc::Global;
@@ -47,6 +47,8 @@ pub(crate) enum Kernel {
     Toggled,
     /// The fences of a list.
     Make,
+    /// A list with its fences, written page by page as another one is read.
+    Build,
     /// All groups, page by page.
     Window,
     /// The rows that a query selects, page by page: those that a bin of each of three columns has.
@@ -75,6 +77,7 @@ impl Kernel {
             "extended" => Some(Kernel::Extended),
             "toggled" => Some(Kernel::Toggled),
             "make" => Some(Kernel::Make),
+            "build" => Some(Kernel::Build),
             "window" => Some(Kernel::Window),
             "select" => Some(Kernel::Select),
             _ => None,
@@ -114,6 +117,7 @@ impl Kernel {
             Kernel::Extended => Outcome::List(extended(rt, times, a)?),
             Kernel::Toggled => Outcome::List(toggled(rt, times, a)?),
             Kernel::Make => Outcome::Pages(fenced(rt, times, a)?),
+            Kernel::Build => Outcome::Pages(timed(rt, times, || rewritten(alloc, &inputs[0]))??),
             Kernel::Window => {
                 let xor = timed(rt, times, || xor_of(&inputs[0]))?;
                 Outcome::Number(u64::from(xor))

@@ -1,19 +1,38 @@
 //! Kernels that read their inputs page by page, as queries do.
-ghost use Rattle.std.specs.Prelude.{ℕ, ◌≡◌, ◌+◌, ◌*◌, ◌^◌, ◌<◌, ◌≤◌, length, slice_index, bit_and, sum_by, count_ones};
-ghost use Rattle.fence_window.specs.Window.{page_count};
+ghost use Rattle.std.specs.Prelude.{ℕ, ◌≡◌, ◌+◌, ◌*◌, ◌^◌, ◌<◌, ◌≤◌, IfOk, length, slice_index, bit_and, sum_by, count_ones};
+ghost use Rattle.wah_words.specs.Place.{page_count};
 ghost use Rattle.kernel_bench.specs.Pages.{xor_into, or_at, block_count, IsXor, IsSelected, IsSelectedIn};
 
-use fence_window::{Fenced, PAGE_ROWS};
+use fence_window::{BLOCK_GROUPS, Fenced, PAGE_GROUPS, PAGE_ROWS};
+use std::alloc::Global;
+use wah_words::{Memory, PageWriter, laws, pages_of_list};
 
 // The groups of a page.
-type Page = [u32; 128];
+type Page = [u32; PAGE_GROUPS];
 // The groups of 32 pages.
-type Block = [u32; 4096];
+type Block = [u32; BLOCK_GROUPS];
 
 const BLOCK_PAGES: u32 = 32;
 
 // The number of the definition.
 const _: () = prove!(BLOCK_PAGES == 32);
+
+/// The list, written page by page as it is read.
+pub(crate) fn rewritten(alloc: Global, list: &Fenced) -> Result<Fenced, Memory>
+    ensures { IfOk result (λ written. written ≡ list.now) }
+{
+    laws::groups();
+    pages_of_list();
+    let rows = list.wah().len();
+    let pages = rows.div_ceil(PAGE_ROWS);
+    let mut writer = PageWriter::with_capacity(alloc, pages)?;
+    let mut page = [0; PAGE_GROUPS];
+    for number in 0..pages {
+        list.window(number, &mut page);
+        writer.push_page(&page)?;
+    }
+    Fenced::from_pages(writer, rows)
+}
 
 /// The exclusive or of all groups, read page by page.
 pub(crate) fn xor_of(list: &Fenced) -> u32
