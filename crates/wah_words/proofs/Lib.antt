@@ -6,6 +6,7 @@ pub mod Finished
 pub mod Groups
 pub mod Marks
 pub mod Paged
+pub mod PageRows
 pub mod PagesOfLists
 pub mod Pointwise
 pub mod Reading

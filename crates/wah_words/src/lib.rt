@@ -43,6 +43,7 @@ mod complement;
 mod count;
 mod cursor;
 mod operation;
+mod page_rows;
 mod pages;
 mod place;
 mod places;
@@ -50,6 +51,7 @@ mod run;
 mod wah;
 mod walk;
 
+pub use page_rows::{true_places, true_rows_of};
 pub use pages::{PageWriter, pages_of_list};
 pub use place::{PAGE_GROUPS, PAGE_ROWS, Place};
 pub use run::{GROUP_ROWS, Run, TRUE_FILL, is_literal};
