@@ -51,10 +51,11 @@ impl Plain {
 }
 
 // Puts groups into numbers, by or, as far as there is room; behind the last group nothing changes.
-fn or_plain(groups: &[u32], out: &mut [u32; BLOCK_GROUPS])
+#[inline(always)]
+fn or_plain(groups: &[u32], out: &mut [u32])
     ensures { OrsFrom out.old out.new groups.now }
 {
-    for i in 0..groups.len().min(BLOCK_GROUPS) {
+    for i in 0..groups.len().min(out.len()) {
         out[i] |= groups[i];
     }
 }
