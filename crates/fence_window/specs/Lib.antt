@@ -1,2 +1,3 @@
 pub mod Ors
+pub mod Plain
 pub mod Window

@@ -2,6 +2,7 @@
 ghost use Rattle.std.specs.Prelude.{ℕ, ◌≡◌, ◌+◌, ◌*◌, ◌<◌, IfOk, length, take, slice_get, slice_index, bit_or};
 ghost use Rattle.wah_words.specs.Group.{group_at, unpacked};
 ghost use Rattle.wah_words.specs.Place.{ArePagesOf, HasFences};
+ghost use Rattle.fence_window.specs.Ors.{IsOrInto};
 ghost use Rattle.fence_window.specs.Window.{IsWindow};
 
 use crate::Memory;
@@ -74,8 +75,7 @@ impl Fenced {
     /// Puts the groups of 32 pages from the first on into the numbers, by or; past the last page nothing changes. It
     /// takes no memory.
     pub fn or_into(&self, first: u32, out: &mut [u32; BLOCK_GROUPS])
-        ensures { (i : ℕ) → i < 4096 → slice_index out.new i
-            ≡ bit_or (slice_index out.old i) (group_at self.now (128 * first + i)) }
+        ensures { IsOrInto self.now first out.old out.new }
     {
         let words = self.wah.words();
         match self.fences.get(first as usize) {

@@ -30,6 +30,8 @@
 
 mod fenced;
 mod place;
+mod plain;
 
 pub use fenced::{BLOCK_GROUPS, Fenced};
+pub use plain::Plain;
 pub use wah_words::{Memory, PAGE_GROUPS, PAGE_ROWS, PageWriter};

@@ -10,6 +10,7 @@ pub mod GroupLaws
 pub mod Marks
 pub mod Moves
 pub mod Paged
+pub mod PageRows
 pub mod PagesOfLists
 pub mod Pointwise
 pub mod Reading

@@ -35,7 +35,7 @@ spells_itself words rows canonical =
     record { canonical = rw long canonical; rows = rw long refl }
 
 -- how many rows of groups are true
-true_count-group_rows : (group : ℕ) → group < 2 ^ 31 → true_count (group_rows group) ≡ count_ones group
+pub true_count-group_rows : (group : ℕ) → group < 2 ^ 31 → true_count (group_rows group) ≡ count_ones group
 unfolding group_rows
 true_count-group_rows group below = true_count-low_bits 31 group below
 

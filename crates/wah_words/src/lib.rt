@@ -47,6 +47,7 @@ mod cursor;
 mod front;
 pub mod laws;
 mod operation;
+mod page_rows;
 mod pages;
 mod place;
 mod places;
@@ -56,6 +57,7 @@ mod toggle;
 mod wah;
 mod walk;
 
+pub use page_rows::{true_places, true_rows_of};
 pub use pages::{PageWriter, pages_of_list};
 pub use place::{PAGE_GROUPS, PAGE_ROWS, Place};
 pub use run::{GROUP_ROWS, Run, TRUE_FILL, is_literal};
