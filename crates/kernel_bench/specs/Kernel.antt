@@ -1,10 +1,11 @@
 -- What the kernels make.
-use Rattle.std.specs.Prelude.{ℕ, zero, suc, ◌≡◌, ◌+◌, ◌-◌, ◌*◌, ◌/◌, ◌^◌, ◌++◌, ◌∷◌, min, replicate, false, Bool, ◌&&◌, ◌||◌, not, map, List, [], All, length, slice_index_or}
+use Rattle.std.specs.Prelude.{ℕ, zero, suc, ◌≡◌, ◌+◌, ◌-◌, ◌*◌, ◌/◌, ◌^◌, ◌++◌, ◌∷◌, min, replicate, false, Bool, ◌&&◌, ◌||◌, not, map, List, [], All, length, slice_index_or, IsTrue, Contains, ◌↔◌}
+use Rattle.std.specs.Int.{div_ceil}
 use Rattle.wah_words.specs.Rows.{IsToggled, differs, pointwise, true_count}
 use Rattle.wah_words.specs.Place.{page_count}
 use Rattle.kernel_bench.specs.Pages.{IsXor, IsSelectedOf, block_count}
 use Rattle.kernel_bench.specs.declared.kernel.Kernel.{Kernel}
-use Rattle.kernel_bench.specs.declared.kernel.Kernel.TheVariants.{And, Or, Xor, Not, Count, Extended, Toggled, Make, Build, Window, Select}
+use Rattle.kernel_bench.specs.declared.kernel.Kernel.TheVariants.{And, Or, Xor, Not, Count, Extended, FromPlaces, Toggled, Make, Build, Window, Select}
 use Rattle.kernel_bench.specs.declared.kernel.Outcome.{Outcome}
 use Rattle.kernel_bench.specs.declared.kernel.Outcome.TheVariants.{List as AList, Pages, Number}
 
@@ -16,6 +17,7 @@ input_count Xor = 2
 input_count Not = 1
 input_count Count = 1
 input_count Extended = 1
+input_count FromPlaces = 1
 input_count Toggled = 1
 input_count Make = 1
 input_count Build = 1
@@ -34,15 +36,24 @@ list_at lists k = slice_index_or lists k []
 abbrev pub with_page : List Bool → List Bool
 with_page list = list ++ replicate (min (length list + 3968) (2 ^ 32 - 1) - length list) false
 
--- the first n multiples of 65,536
-abbrev pub multiples : ℕ → List ℕ
-multiples zero = []
-multiples (suc n) = multiples n ++ 65_536 * n ∷ []
+-- the first n multiples of a step
+abbrev pub multiples : ℕ → ℕ → List ℕ
+multiples step zero = []
+multiples step (suc n) = multiples step n ++ step * n ∷ []
 
--- each of these rows is turned
+-- one row in so many, from the first on
+abbrev pub each_of : ℕ → ℕ → List ℕ
+each_of step rows = multiples step (div_ceil rows step)
+
+-- one row in 65,536 is turned
 pub record IsTurned (old new : List Bool) : Type 0 where
   pub long : length new ≡ length old
-  pub rows : IsToggled old (multiples ((length old + 65_535) / 65_536)) new
+  pub rows : IsToggled old (each_of 65_536 (length old)) new
+
+-- one row in 84 is true, of so many
+pub record IsSpread (rows : ℕ) (list : List Bool) : Type 0 where
+  pub long : length list ≡ rows
+  pub places : (row : ℕ) → IsTrue (slice_index_or list row false) ↔ Contains (each_of 84 rows) row
 
 -- what the kernel makes of the lists
 abbrev pub Makes : Kernel → List (List Bool) → Outcome → Type 0
@@ -52,6 +63,8 @@ Makes Xor lists outcome = outcome ≡ AList (pointwise differs (list_at lists 0)
 Makes Not lists outcome = outcome ≡ AList (map not (list_at lists 0))
 Makes Count lists outcome = outcome ≡ Number (true_count (list_at lists 0))
 Makes Extended lists outcome = outcome ≡ AList (with_page (list_at lists 0))
+Makes FromPlaces lists outcome =
+    (list : List Bool) × (outcome ≡ AList list) × IsSpread (length (list_at lists 0)) list
 Makes Toggled lists outcome =
     (list : List Bool) × (outcome ≡ AList list) × IsTurned (list_at lists 0) list
 Makes Make lists outcome = outcome ≡ Pages (list_at lists 0)

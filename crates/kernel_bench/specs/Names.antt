@@ -3,7 +3,7 @@ use Rattle.std.specs.Prelude.{ℕ, List, Option, Some, None, codes, bytes_eq, if
 use Rattle.kernel_bench.specs.declared.form.Form.{Form}
 use Rattle.kernel_bench.specs.declared.form.Form.TheVariants.{Dense, Sparse, Clustered, Mixed}
 use Rattle.kernel_bench.specs.declared.kernel.Kernel.{Kernel}
-use Rattle.kernel_bench.specs.declared.kernel.Kernel.TheVariants.{And, Or, Xor, Not, Count, Extended, Toggled, Make, Build, Window, Select}
+use Rattle.kernel_bench.specs.declared.kernel.Kernel.TheVariants.{And, Or, Xor, Not, Count, Extended, FromPlaces, Toggled, Make, Build, Window, Select}
 
 -- the form that a name says
 abbrev pub form_named : List ℕ → Option Form
@@ -23,6 +23,7 @@ kernel_named name =
     else if bytes_eq name (codes "not") then Some Not
     else if bytes_eq name (codes "count") then Some Count
     else if bytes_eq name (codes "extended") then Some Extended
+    else if bytes_eq name (codes "from_places") then Some FromPlaces
     else if bytes_eq name (codes "toggled") then Some Toggled
     else if bytes_eq name (codes "make") then Some Make
     else if bytes_eq name (codes "build") then Some Build

@@ -1,9 +1,9 @@
 //! The kernels.
-ghost use Rattle.std.specs.Prelude.{◌≡◌, ◌+◌, ◌/◌, ◌<◌, All, IfOk, length};
+ghost use Rattle.std.specs.Prelude.{◌≡◌, ◌<◌, ◌≤◌, All, IfOk, length};
 ghost use Rattle.std.specs.List.Sorted.{IsStrictlyIncreasing};
 ghost use Rattle.kernel_bench.specs.Pages.{IsSelectedOf, block_count};
 ghost use Rattle.kernel_bench.specs.Names.{kernel_named};
-ghost use Rattle.kernel_bench.specs.Kernel.{AreOfLength, Makes, IsTurned, input_count, list_at, multiples, with_page};
+ghost use Rattle.kernel_bench.specs.Kernel.{AreOfLength, Makes, IsSpread, IsTurned, each_of, input_count, list_at, with_page};
 
 use crate::pages::{rewritten, selected, xor_of};
 use crate::times::Times;
@@ -28,10 +28,14 @@ const _: () = prove!(MONTHS == 12);
 
 const _: () = prove!(DISCOUNTS == 3);
 
-// Every so many rows one is turned.
+// In so many rows one is turned.
 const TOGGLE_ROWS: u32 = 65_536;
+// In so many rows one is true.
+const SPREAD_ROWS: u32 = 84;
 
 const _: () = prove!(TOGGLE_ROWS == 65_536);
+
+const _: () = prove!(SPREAD_ROWS == 84);
 
 /// An operation to measure.
 #[derive(Clone, Copy)]
@@ -43,6 +47,8 @@ pub(crate) enum Kernel {
     Count,
     /// A page of false rows more.
     Extended,
+    /// A list of one true row in 84, from their places.
+    FromPlaces,
     /// One row in 65,536 turned.
     Toggled,
     /// The fences of a list.
@@ -75,6 +81,7 @@ impl Kernel {
             "not" => Some(Kernel::Not),
             "count" => Some(Kernel::Count),
             "extended" => Some(Kernel::Extended),
+            "from_places" => Some(Kernel::FromPlaces),
             "toggled" => Some(Kernel::Toggled),
             "make" => Some(Kernel::Make),
             "build" => Some(Kernel::Build),
@@ -115,6 +122,7 @@ impl Kernel {
             Kernel::Not => Outcome::List(timed(rt, times, || a.not(alloc))??),
             Kernel::Count => Outcome::Number(u64::from(timed(rt, times, || a.count())?)),
             Kernel::Extended => Outcome::List(extended(rt, times, a)?),
+            Kernel::FromPlaces => Outcome::List(spread(rt, times, a.len())?),
             Kernel::Toggled => Outcome::List(toggled(rt, times, a)?),
             Kernel::Make => Outcome::Pages(fenced(rt, times, a)?),
             Kernel::Build => Outcome::Pages(timed(rt, times, || rewritten(alloc, &inputs[0]))??),
@@ -149,12 +157,20 @@ fn extended<R: Clock + AllocGlobal>(rt: &R, times: &mut Times, list: &Wah) -> io
     Ok(timed(rt, times, || list.extended(alloc, rows))??)
 }
 
+fn spread<R: Clock + AllocGlobal>(rt: &R, times: &mut Times, rows: u32) -> io::Result<Wah>
+    ensures { IfOk result (IsSpread rows) }
+{
+    let alloc = rt.alloc();
+    let places = each_of(alloc, SPREAD_ROWS, rows)?;
+    Ok(timed(rt, times, || Wah::from_places(alloc, &places, rows))??)
+}
+
 fn toggled<R: Clock + AllocGlobal>(rt: &R, times: &mut Times, list: &Wah) -> io::Result<Wah>
     ensures { IfOk result (IsTurned list.now) }
 {
     let alloc = rt.alloc();
     let rows = list.len();
-    let places = toggled_places(alloc, rows)?;
+    let places = each_of(alloc, TOGGLE_ROWS, rows)?;
     Ok(timed(rt, times, || list.toggled(alloc, &places, rows))??)
 }
 
@@ -166,15 +182,17 @@ fn fenced<R: Clock + AllocGlobal>(rt: &R, times: &mut Times, list: &Wah) -> io::
     Ok(timed(rt, times, move || Fenced::make(alloc, copy))??)
 }
 
-// One place in so many rows.
-fn toggled_places(alloc: Global, rows: u32) -> Result<Vec<u32>, Memory>
-    ensures multiples { IfOk result (λ places. places.items ≡ multiples ((rows + 65_535) / 65_536)) }
+// One row in so many, from the first on.
+fn each_of(alloc: Global, step: u32, rows: u32) -> Result<Vec<u32>, Memory>
+    requires { 1 ≤ step }
+    ensures each { IfOk result (λ places. places.items ≡ each_of step rows) }
     ensures rising { IfOk result (λ places. IsStrictlyIncreasing places.items) }
     ensures below { IfOk result (λ places. All (λ place. place < rows) places.items) }
 {
-    let mut places = Vec::with_capacity(alloc, rows.div_ceil(TOGGLE_ROWS) as usize)?;
-    for i in 0..rows.div_ceil(TOGGLE_ROWS) {
-        places.push(TOGGLE_ROWS * i)?;
+    let count = rows.div_ceil(step);
+    let mut places = Vec::with_capacity(alloc, count as usize)?;
+    for i in 0..count {
+        places.push(step * i)?;
     }
     Ok(places)
 }

@@ -1,8 +1,7 @@
 use Rattle.std.proofs.Common.{◌≡◌, ℕ, ◌+◌, ◌*◌, ◌/◌, ◌<◌, ◌≤◌, ◌∙◌, Bool, List, length, get_or, take, sym, ap, subst, arith, inl, inr}
-use Rattle.std.specs.Prelude.{IfOk}
+use Rattle.std.proofs.lemmas.Result.{IfOk-weaker}
 use Rattle.std.proofs.lemmas.Bool.{cases_lt}
 use Rattle.std.proofs.lemmas.List.{get_or_past}
-use Rattle.fence_window.specs.declared.fenced.Fenced.{Fenced}
 use Rattle.wah_words.specs.Group.{group_at, group_count, unpacked}
 use Rattle.wah_words.specs.Place.{ArePagesOf, SpellPages, page_count}
 use Rattle.kernel_bench.specs.Pages.{AreFirstPages}
@@ -39,7 +38,15 @@ all_pages c =
 pub from_pages-requires : goal.from_pages-requires
 from_pages-requires c =
     subst (ArePagesOf c.loop-number.writer) (sym (c.len-rows.ensures ∙ ap length c.wah.ensures))
-    (c.pages_of_list.ensures.held c.loop-number.writer c.args.list.now (all_pages (goal.at.from_pages-requires c).After-loop-number))
+    (c.pages_of_list.ensures.held c.loop-number.writer c.args.list.now
+    (all_pages (goal.at.from_pages-requires c).After-loop-number))
 
 pub returns : goal.returns
-returns c = ?
+returns c =
+    let list = c.args.list.now in
+    let groups = c.loop-number.writer in
+    let whole : take c.len-rows.result (unpacked groups) ≡ list =
+    ap (λ rows. take rows (unpacked groups)) (c.len-rows.ensures ∙ ap length c.wah.ensures)
+    ∙ c.pages_of_list.ensures.list groups list (all_pages (goal.at.returns c).After-loop-number) in
+    IfOk-weaker c.from_pages.result (λ made. made ≡ take c.len-rows.result (unpacked groups)) (λ made. made ≡ list)
+    (λ made is. is ∙ whole) c.from_pages.ensures
