@@ -1,11 +1,12 @@
 -- Groups of words, part by part.
-use Rattle.std.proofs.Common.{◌≡◌, ℕ, zero, suc, ◌+◌, ◌*◌, ◌^◌, ◌<◌, ◌∙◌, List, [], ◌∷◌, ◌++◌, length, get_or, take, drop, replicate, refl, sym, ap, arith, take-add}
+use Rattle.std.proofs.Common.{◌≡◌, ℕ, zero, suc, ◌+◌, ◌-◌, ◌*◌, ◌^◌, ◌<◌, ◌∙◌, List, [], ◌∷◌, ◌++◌, length, get_or, take, drop, replicate, refl, sym, ap, arith, take-add}
 use Rattle.std.specs.Prelude.{All}
 use Rattle.std.specs.Simd.{first_chunks}
 use Rattle.std.proofs.lemmas.Bool.{lt-ltb}
-use Rattle.std.proofs.lemmas.List.{append-nil, drop-drop, length-replicate, take_more}
+use Rattle.std.proofs.lemmas.List.{append-nil, drop-drop, drop_at, length-replicate, take-append-drop, take_more}
 use Rattle.std.proofs.lemmas.List.Concat.{flat_map-append}
 use Rattle.wah_words.specs.Word.{groups, run_group, run_count, word_groups}
+use Rattle.wah_words.specs.Front.{IsFront}
 use Rattle.fence_window.proofs.Places.{groups-cons}
 
 -- a word has as many groups as it counts
@@ -17,6 +18,22 @@ length-word_groups word = length-replicate (run_count word) (run_group word)
 pub word_groups-run : (word : ℕ) → word_groups word ≡ replicate (run_count word) (run_group word)
 unfolding word_groups
 word_groups-run word = refl
+
+-- the groups of the first words and of the rest
+pub groups-parted : (n : ℕ) (words : List ℕ) → groups words ≡ groups (take n words) ++ groups (drop n words)
+groups-parted n words =
+    ap groups (sym (take-append-drop n words)) ∙ flat_map-append word_groups (take n words) (drop n words)
+
+-- a front of words is left out with its groups
+pub groups-drop_front : (words : List ℕ) (most count group_count : ℕ) → IsFront words most count group_count
+    → drop most (groups words) ≡ drop (most - group_count) (groups (drop count words))
+groups-drop_front words most count group_count front =
+    let parts : group_count + (most - group_count) ≡ most = omega (arith, front.few) in
+    ap (λ n. drop n (groups words)) (sym parts)
+    ∙ sym (drop-drop (most - group_count) group_count (groups words))
+    ∙ ap (λ gs. drop (most - group_count) (drop group_count gs)) (groups-parted count words)
+    ∙ ap (drop (most - group_count))
+    (drop_at (groups (take count words)) (groups (drop count words)) group_count (sym front.is))
 
 -- the groups of the first words and of some more
 pub groups-take_add : (n m : ℕ) (words : List ℕ)

@@ -4,7 +4,7 @@ ghost use Rattle.wah_words.specs.Word.{groups, run_count, run_group, word_groups
 ghost use Rattle.wah_words.specs.Place.{groups_from};
 ghost use Rattle.fence_window.specs.Ors.{OrsFrom, OrsAt};
 
-use wah_words::{Place, Run, TRUE_FILL, is_literal};
+use wah_words::{Place, Run, TRUE_FILL, front_within, is_literal};
 
 /// The place so many groups further on, or the end of the words.
 pub(crate) fn advanced(words: &[u32], place: Place, groups: u32) -> Place
@@ -13,20 +13,22 @@ pub(crate) fn advanced(words: &[u32], place: Place, groups: u32) -> Place
     ensures inside { result.skipped < run_count (slice_index words.now result.word) }
     ensures few { result.skipped < 2 ^ 30 }
 {
-    let mut left = place.skipped + groups;
-    for word in place.word..words.len() {
-        let count = Run::of_word(words[word]).count;
-        if left < count {
-            return Place {
-                word,
-                skipped: left,
-            };
-        }
-        left -= count;
-    }
-    Place {
+    let end = Place {
         word: words.len(),
         skipped: 0,
+    };
+    if place.word >= words.len() {
+        return end;
+    }
+    let wanted = place.skipped + groups;
+    let front = front_within(&words[place.word..], wanted);
+    let word = place.word + front.words;
+    if word == words.len() {
+        return end;
+    }
+    Place {
+        word,
+        skipped: wanted - front.groups,
     }
 }
 

@@ -1,8 +1,8 @@
 //! How many words from the front have no more than so many groups.
 //!
 //! Words are measured by spans: one test tells that all words of a span are literals, which have a group each.
-ghost use Rattle.std.specs.Prelude.{ℕ, ◌≡◌, ◌<◌, ◌^◌, IsTrue, length, slice_index};
-ghost use Rattle.wah_words.specs.Word.{groups as groups_of};
+ghost use Rattle.std.specs.Prelude.{ℕ, ◌≡◌, ◌<◌, ◌+◌, ◌^◌, IsTrue, length, slice_index};
+ghost use Rattle.wah_words.specs.Word.{groups as groups_of, run_count};
 ghost use Rattle.wah_words.specs.Front.{IsFront};
 
 use crate::run::{Run, is_literal};
@@ -14,15 +14,17 @@ const _: () = prove!(SPAN_WORDS == 32);
 
 /// Words from the front of others: how many they are, and how many groups they have.
 #[derive(Clone, Copy)]
-pub(crate) struct Front {
-    pub(crate) words: usize,
-    pub(crate) groups: u32,
+pub struct Front {
+    pub words: usize,
+    pub groups: u32,
 }
 
-/// Words from the front that have no more than so many groups together. Where each word has a group, they are the
-/// most that have not.
-pub(crate) fn front_within(words: &[u32], most: u32) -> Front
-    ensures { IsFront words.now most result.words result.groups }
+/// Words from the front that have no more than so many groups together, and with the next one have more. It takes a
+/// step for each 32 literals, and for each other word.
+pub fn front_within(words: &[u32], most: u32) -> Front
+    ensures front { IsFront words.now most result.words result.groups }
+    ensures longest { result.words < length words.now →
+        most < result.groups + run_count (slice_index words.now result.words) }
 {
     let spans = spans_within(words, most);
     let mut groups = spans.groups;

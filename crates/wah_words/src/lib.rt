@@ -57,6 +57,7 @@ mod toggle;
 mod wah;
 mod walk;
 
+pub use front::{Front, front_within};
 pub use page_rows::{true_places, true_rows_of};
 pub use pages::{PageWriter, pages_of_list};
 pub use place::{PAGE_GROUPS, PAGE_ROWS, Place};

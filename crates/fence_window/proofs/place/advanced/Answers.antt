@@ -1,16 +1,21 @@
-use Rattle.std.proofs.Common.{◌+◌, ◌-◌, ◌∙◌, sym, ap, arith, drop, get_or}
-use Rattle.wah_words.specs.Word.{groups, run_group, run_count}
-use Rattle.fence_window.proofs.Places.{groups-drop, drop_run}
+use Rattle.std.proofs.Common.{ℕ, List, ◌≡◌, ◌+◌, ◌-◌, ◌∙◌, sym, ap, subst, arith, drop, length, take}
+use Rattle.std.proofs.lemmas.List.{drop-drop, length-drop, take_all}
+use Rattle.wah_words.specs.Word.{groups}
+use Rattle.wah_words.specs.Front.{IsFront}
+use Rattle.fence_window.proofs.Blocks.{groups-drop_front}
 use Rattle.fence_window.proofs.place.advanced.Goals as goal
 
-pub loop-word-preserved : goal.loop-word-preserved
-loop-word-preserved c =
+pub returns-clause-rest : goal.returns-clause-rest
+returns-clause-rest c =
     let words = c.args.words.now in
-    let word = get_or words c.loop-word.word 0 in
-    let whole =
-    drop_run c.loop-word.left (run_count word) (run_group word) (groups (drop (c.loop-word.word + 1) words))
-    (omega arith) in
-    ap (λ n. drop (c.loop-word.left - n) (groups (drop (c.loop-word.word + 1) words))) c.of_word-count.ensures.count
-    ∙ sym whole
-    ∙ ap (drop c.loop-word.left) (sym (groups-drop words c.loop-word.word c.loop-word-test.true))
-    ∙ c.loop-word.invariant
+    let place = c.args.place in
+    let left = place.skipped + c.args.groups in
+    let count = c.front_within-front.result.words in
+    let group_count = c.front_within-front.result.groups in
+    let after = drop place.word words in
+    let whole : take (length words - place.word) after ≡ after =
+    take_all (length words - place.word) after (omega (arith, length-drop place.word words)) in
+    let front = subst (λ (ws : List ℕ). IsFront ws left count group_count) whole c.front_within-front.ensures.front in
+    sym (drop-drop c.args.groups place.skipped (groups after)
+    ∙ groups-drop_front after left count group_count front
+    ∙ ap (λ rest. drop (left - group_count) (groups rest)) (drop-drop count place.word words))

@@ -4,13 +4,8 @@ use Rattle.std.proofs.lemmas.List.Concat.{flat_map-append}
 use Rattle.wah_words.specs.Word.{groups, word_groups}
 use Rattle.fence_window.specs.Ors.{OrsAt}
 use Rattle.fence_window.proofs.Ors.{ors_none, ors_append, ors_full}
-use Rattle.fence_window.proofs.Blocks.{groups-take_add, get_or-first_chunks}
+use Rattle.fence_window.proofs.Blocks.{groups-parted, groups-take_add, get_or-first_chunks}
 use Rattle.fence_window.proofs.place.or_words.Goals as goal
-
--- the groups of the first words and of the rest
-groups-parted : (n : ℕ) (words : List ℕ) → groups words ≡ groups (take n words) ++ groups (drop n words)
-groups-parted n words =
-    ap groups (sym (take-append-drop n words)) ∙ flat_map-append word_groups (take n words) (drop n words)
 
 pub loop-block-init : goal.loop-block-init
 loop-block-init c = record {

@@ -33,6 +33,6 @@ returns-clause-count c =
       c.told-out,
       c.from.ensures,
       length-set c.args.out.now c.args.len
-      (c.args.first + count_trailing_zeros 64 (c.args.rows + 9223372036854775808)),
+          (c.args.first + count_trailing_zeros 64 (c.args.rows + 9223372036854775808)),
       byte_few (not (eqb c.args.rows 0)),
     ))
