@@ -1,4 +1,5 @@
 pub mod Fences
 pub mod Ors
+pub mod Pages
 pub mod Places
 pub mod Windows
