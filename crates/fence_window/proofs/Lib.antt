@@ -1,5 +1,6 @@
 pub mod Blocks
 pub mod Fences
 pub mod Ors
+pub mod Pages
 pub mod Places
 pub mod Windows

@@ -4,19 +4,22 @@
 //! # Proved
 //!
 //! - `Fenced::make`, `wah`: the list is that of the bitvector that was given, and so are its words.
+//! - `Fenced::from_pages`: the list of so many rows whose pages were written.
 //! - `Fenced::window`: the 128 groups of a page, and 0 where the list has none, at every page number.
 //! - `Fenced::or_into`: 4,096 numbers become the or with the groups of 32 pages, and stay where the list has none.
 //! - `Fenced::get`: the truth value of a row.
-//! - No call but `make` takes memory, and every call returns.
+//! - `Plain::from_groups`: the list of so many rows whose groups these are. `or_into`: the same as that of `Fenced`.
+//! - No call but `make` and `from_pages` takes memory, and every call returns.
 //!
 //! # Only tested
 //!
-//! - That `make` succeeds, on lists of up to 130,000 rows, and on the longest list there is.
+//! - That `make` succeeds, on lists of up to 130,000 rows, and on the longest list there is; that `from_pages` does, on
+//!   lists of up to 1,000,000 rows.
 //!
 //! # Not said
 //!
 //! - Time: no clause says that a window walks only the words of its page.
-//! - When there is no memory: `make` lets the bitvector go then.
+//! - When there is no memory: `make` lets the bitvector go then, and `from_pages` the pages.
 //!
 //! # Example
 //!

@@ -1,10 +1,12 @@
 -- The groups of a list, in whole pages.
 use Rattle.std.proofs.Common.{◌≡◌, ℕ, zero, suc, ◌+◌, ◌-◌, ◌*◌, ◌^◌, ◌<◌, ◌≤◌, ◌∙◌, Bool, false, List, [], ◌∷◌, ◌++◌, length, get_or, take, drop, replicate, refl, sym, ap, arith, inl, inr}
 use Rattle.std.specs.Prelude.{All}
-use Rattle.std.proofs.lemmas.List.{append-nil, append_assoc, length-take-le, length-drop, length-replicate, take_all, drop_all, take_at, drop_at, take-append-drop, drop-drop, replicate-append-replicate, nil_from_length}
+use Rattle.std.proofs.lemmas.List.{append-nil, append_assoc, length-take, length-take-le, length-drop, length-replicate, take_all, drop_all, take_at, drop_at, take-append-drop, drop-drop, replicate-append-replicate, nil_from_length}
 use Rattle.std.proofs.lemmas.List.Elements.{All-replicate}
 use Rattle.std.proofs.lemmas.Bool.{cases_lt}
 use lib.Lanes.{mask_l}
+use Rattle.std.proofs.lemmas.Simd.{mask_l-lt}
+use Rattle.std.proofs.Math.Nat.{pow-le-pow_right}
 use Rattle.wah_words.specs.Group.{low_bits, group_rows, unpacked, group_at}
 use Rattle.wah_words.specs.Place.{page_count, ArePagesOf, SpellPages}
 use Rattle.wah_words.proofs.Bits.{low_bits-mask}
@@ -119,3 +121,10 @@ pages_spelled gs rows within is =
           ∙ ap (λ rows. group_at rows k) all
           ∙ mask-drop_padded 31 (31 * k) (length rest) list;
     }
+
+-- each group of a list has 31 bits
+pub group_at-lt : (list : List Bool) (k : ℕ) → group_at list k < 2 ^ 31
+group_at-lt list k =
+    let rows = take 31 (drop (31 * k) list) in
+    let few : length rows ≤ 31 = omega (arith, length-take 31 (drop (31 * k) list)) in
+    omega (arith, mask_l-lt rows, pow-le-pow_right {n = 2} (omega arith) few)

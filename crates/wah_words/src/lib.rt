@@ -1,25 +1,26 @@
 //! Bitvectors in the word-aligned hybrid code: a list of truth values takes 32-bit words, of which each holds 31 rows
 //! as they are or counts equal groups of them. A list has at most one spelling, and operations go over the words of
-//! both lists run by run, so that no list is ever expanded to its rows. Callers see a [`Wah`] as the list that it
-//! spells.
+//! both lists run by run, so that no list is ever expanded to its rows. Callers see a [`Wah`] as the list it spells.
 //!
 //! # Proved
 //!
 //! - `Wah::from_rows`, `from_places`: the list of these truth values, or the one that is true at these places alone.
 //! - `Wah::from_words`: a bitvector exactly where the words are canonical for that many rows (`canonical`), and then
 //!   the list that they spell (`list`), of that length (`rows`).
-//! - `Wah::and`, `or`, `xor`, `not`: the operation on each row. `extended`: the list, and false after it.
-//! - `Wah::toggled`: the list, and false after it, with the rows at some places turned and no others.
-//! - `Wah::count`, `len`: how many rows are true, and how many there are.
+//! - `Wah::and`, `or`, `xor`, `not`: the operation on each row. `extended`: the list, and false after it. `toggled`:
+//!   the same, with the rows at some places turned. `count`, `len`: how many rows are true, and how many there are.
 //! - `Wah::words`: the words spell the list (`spelling`), and group k of the words is that of the list (`each_group`).
-//! - `one_spelling`: words that spell one list are the same words, and words spell one list of a length alone.
-//! - `Run::of_word`, `is_literal`: what one word stands for.
-//! - `laws`: lists, operations and counts group by group, turned rows, and exactly which lists have a spelling.
+//! - `PageWriter`: a list pushed page by page, 128 groups each; `finish` gives the list of the first rows, and the start
+//!   of each page in its words. `front_within`: how many words have at most so many groups.
+//! - `true_places`: the numbers of a page's true rows, rising. `true_rows_of`: how many rows of groups are true.
+//! - `one_spelling`, `pages_of_list`, `laws`: lists, their words, pages and groups; operations, counts and turned rows
+//!   group by group; exactly which lists have a spelling. `Run::of_word`, `is_literal`: what one word stands for.
 //! - Lists that a call is lent stay as they are, and every call returns.
 //!
 //! # Only tested
 //!
-//! - That each call that may answer `Memory` succeeds, on lists of up to 130,000 rows, and the form's own examples.
+//! - That each call that may answer `Memory` succeeds, on lists of up to 130,000 rows (those of `PageWriter` by the
+//!   crate `fence_window`, up to 1,000,000), and the words of the form's own examples.
 //!
 //! # Not said
 //!
@@ -31,10 +32,7 @@
 //!
 //! ```
 //! let a = Wah::from_rows(alloc, &[true, false, true])?;
-//! let b = Wah::from_places(alloc, &[1, 2], 3)?;
-//! let both = a.and(alloc, &b)?;
-//! let either = a.or(alloc, &b)?;
-//! assert!(rt; (both.count(), either.count()) == (1, 3));
+//! let either = a.or(alloc, &Wah::from_places(alloc, &[1, 2], 3)?)?;
 //! let longer = a.toggled(alloc, &[0, 3], 5)?;    // false, false, true, true, false
 //! ```
 #![tactic(auto)]

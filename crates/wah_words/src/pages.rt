@@ -4,7 +4,7 @@
 //! at the end alone, and the start of each page is known when it is pushed. A page without a group of true rows, as
 //! most are, goes without a branch for a group.
 ghost use Rattle.std.specs.Prelude.{ℕ, List, Bool, ◌≡◌, ◌<◌, ◌≤◌, ◌+◌, ◌-◌, ◌*◌, ◌%◌, ◌^◌, ◌≢◌, if◌then◌else◌, [], ◌∷◌, ◌++◌, All, IsTrue, slice_index, IfOk, IfSome, IfNone, OnOk, OnErr, drop, take, false, length};
-ghost use Rattle.wah_words.specs.Group.{unpacked};
+ghost use Rattle.wah_words.specs.Group.{group_at, unpacked};
 ghost use Rattle.wah_words.specs.Pages.{IsUnderway, IsWriting, false_run, underway};
 ghost use Rattle.wah_words.specs.Word.{run_count, run_group};
 ghost use Rattle.wah_words.specs.Place.{ArePagesOf, HasFences, SpellPages};
@@ -100,6 +100,7 @@ impl PageWriter {
 
 /// The law of pages: the groups of a list's pages hold its rows, and groups that hold some rows are those of that list.
 pub fn pages_of_list()
+    ensures within { (list : List Bool) (k : ℕ) → group_at list k < 2 ^ 31 }
     ensures held { (groups : List ℕ) (list : List Bool) → SpellPages groups list → ArePagesOf groups (length list) }
     ensures list { (groups : List ℕ) (list : List Bool) → SpellPages groups list →
         take (length list) (unpacked groups) ≡ list }

@@ -3,6 +3,8 @@ use super::*;
 use std::process::Abort;
 use std::test::Fail;
 
+mod pages;
+
 // The bitvector of these words, fenced.
 fn fenced_of(alloc: Global, words: &[u32], rows: u32) -> Result<Fenced, Fail> {
     let wah = Wah::from_words(words.to_vec(alloc)?, rows).ok_or("not canonical")?;
