@@ -14,8 +14,10 @@
 //!   are.
 //! - `Page::get`: the tuple at the place, or none where the row is not live and past the last row (`value`), and one
 //!   read more whatever it answers (`reads`). No other public call gives a page's tuples.
-//! - `Keys::find`: the row and the tuple of the live row with the key, or none exactly where no live row of the page has
-//!   it, as also for a key of another page.
+//! - `Keys::find`: the row and the tuple of the live row with the key, or none exactly where no live row of the page
+//!   has it, as also for a key of another page.
+//! - `laws::keys`: what the page of a key finds is the table's live row with it. `laws::tuples`: the tuples of a page,
+//!   one by one.
 //! - No call but `build` takes memory.
 //!
 //! # Only tested
@@ -40,6 +42,7 @@
 mod base;
 mod content;
 mod keys;
+pub mod laws;
 mod packed;
 mod page;
 #[cfg(test)]
