@@ -2,6 +2,7 @@ mod Contents
 mod Entries
 mod KeyPages
 mod KeyedRows
+mod LiveKeys
 mod PackedWords
 mod PageTuples
 mod Rising

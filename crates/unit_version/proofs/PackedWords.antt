@@ -65,7 +65,8 @@ unpacked-tuple_word t is =
         ≡ f t.price t.day t.qty t.disc t.tax t.flag t.status
     joined f =
         let same_flag : flag_of (tuple_word t / 2 ^ 54 % 4) ≡ t.flag = ap flag_of flag ∙ flag_of-number t.flag in
-        let same_status : status_of (tuple_word t / 2 ^ 56 % 2) ≡ t.status = ap status_of status ∙ status_of-number t.status in
+        let same_status : status_of (tuple_word t / 2 ^ 56 % 2) ≡ t.status =
+        ap status_of status ∙ status_of-number t.status in
         rw (price, day, qty, disc, tax, same_flag, same_status) refl
 
 -- and its word is of a tuple

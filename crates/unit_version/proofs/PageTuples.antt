@@ -1,5 +1,5 @@
 -- The tuples of a stretch of rows.
-use Rattle.std.proofs.Common.{◌≡◌, ℕ, zero, suc, ◌+◌, List, [], ◌∷◌, ◌++◌, length, refl, ap, arith}
+use Rattle.std.proofs.Common.{◌<◌, slice_get, Some, ◌≡◌, ℕ, zero, suc, ◌+◌, List, [], ◌∷◌, ◌++◌, length, refl, ap, arith}
 use Rattle.cubit_base.specs.Table.{Row}
 use Rattle.cubit_base.specs.LiveRow.{tuple_at}
 use Rattle.unit_version.specs.Content.{tuples_from}
@@ -24,3 +24,13 @@ tuples_from-more table row (suc n) =
 pub tuples_from-none : (table : List Row) (row : ℕ) → tuples_from table row 0 ≡ []
 unfolding tuples_from
 tuples_from-none table row = refl
+
+-- each of them
+pub slice_get-tuples_from : (table : List Row) (row n i : ℕ) → i < n
+    → slice_get (tuples_from table row n) i ≡ Some (tuple_at table (row + i))
+unfolding tuples_from
+slice_get-tuples_from table row zero i low = absurd (omega arith)
+slice_get-tuples_from table row (suc n) zero low = let at : row + 0 ≡ row = omega arith in rw at refl
+slice_get-tuples_from table row (suc n) (suc i) low =
+    let at : row + suc i ≡ row + 1 + i = omega arith in
+    rw at (slice_get-tuples_from table (row + 1) n i (omega arith))

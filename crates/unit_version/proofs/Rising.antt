@@ -71,7 +71,11 @@ count-cons e entries n = sum_by-cons (λ e. cond (is_up_to n e) 1 0) e entries
 -- among rising codes as many are not above n as stand before its place
 pub IsNear-count : (entries : List Entry) (n : ℕ) → IsStrictlyIncreasing (codes entries)
     → IsNear (codes entries) n (count_by (is_up_to n) entries)
-IsNear-count [] n up = record { within = omega arith; low = λ h. absurd (omega arith); high = λ h. absurd (omega arith) }
+IsNear-count [] n up = record {
+  within = omega arith;
+  low = λ h. absurd (omega arith);
+  high = λ h. absurd (omega arith);
+}
 IsNear-count (e ∷ entries) n up =
     let rest = IsNear-count entries n (rising-tail e.code (codes entries) up) in
     elim (cases_lt n e.code) [
@@ -114,7 +118,10 @@ absent-near xs n place up near differs i within is =
 at_piece : (entries : List Entry) (from to k : ℕ) → k < to - from
     → slice_index (codes (slice_range entries from to)) k ≡ slice_index (codes entries) (from + k)
 at_piece entries from to k within =
-    rw (← take-map (λ (e : Entry). e.code) (to - from) (drop from entries), ← drop-map (λ (e : Entry). e.code) from entries)
+    rw (
+      ← take-map (λ (e : Entry). e.code) (to - from) (drop from entries),
+      ← drop-map (λ (e : Entry). e.code) from entries,
+    )
     (get_or-take (to - from) (drop from (codes entries)) k 0 within ∙ get_or-drop from (codes entries) k 0)
 
 length_piece : (entries : List Entry) (from to : ℕ) → to ≤ length entries
@@ -145,7 +152,8 @@ piece-low entries from to n zero ends inside begins near some =
     let first = at_piece entries from to 0 (omega arith) in
     let above = near.high (omega arith) in
     let at : from + 0 ≡ from = omega arith in
-    let same : slice_index (codes (slice_range entries from to)) 0 ≡ slice_index (codes entries) from = rw at at first in
+    let same : slice_index (codes (slice_range entries from to)) 0 ≡ slice_index (codes entries) from =
+    rw at at first in
     absurd (omega arith)
 piece-low entries from to n (suc place) ends inside begins near some =
     let long = length_piece entries from to ends in

@@ -52,7 +52,7 @@ fn count_up_to(entries: &[Entry], code: u32) -> usize
     count
 }
 
-// The place behind the last number that is not above this one: from a guess outward by doubled steps, and then by halves.
+// The place behind the last number that is not above this one: from a guess outward by doubled steps, then by halves.
 fn near(tops: &[u32], code: u32) -> usize
     ensures { IsNear tops.now code result }
 {

@@ -26,6 +26,7 @@ returns c =
     let within : place < length entries = omega (arith, there.0, length-map entries code) in
     let at = get_or_read entries place e within c.index-entry.ensures in
     let is = ap code (at e) ∙ sym (get_or-map code entries place e 0 within) ∙ there.1 in
-    let found = row_of_key-at c.self.inside.rest entries c.args.key.now place e (sym c.rest_of.ensures ∙ c.if-rest_of-self.false) c.code_of.ensures.line c.self.invariant.rising within
-    (λ d. sym (at d)) is in
+    let of_page = sym c.rest_of.ensures ∙ c.if-rest_of-self.false in
+    let found = row_of_key-at c.self.inside.rest entries c.args.key.now place e of_page c.code_of.ensures.line
+    c.self.invariant.rising within (λ d. sym (at d)) is in
     rw (c.tuple.ensures, ← c.self.view_is) (sym found)

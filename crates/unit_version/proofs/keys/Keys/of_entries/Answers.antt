@@ -5,4 +5,5 @@ pub sort-requires : goal.sort-requires
 sort-requires c = codes-apart c.args.rest c.args.entries.items c.requires.apart
 
 pub returns : goal.returns
-returns c = by_row-sorted c.args.rest c.args.entries.items c.sort.new.entries.items c.sort.ensures.moved c.requires.apart
+returns c =
+    by_row-sorted c.args.rest c.args.entries.items c.sort.new.entries.items c.sort.ensures.moved c.requires.apart
