@@ -2,7 +2,7 @@
 use Rattle.std.specs.Prelude.{◌≡◌, ◌≤◌, length}
 use Rattle.column_bins.specs.declared.column.Column.TheVariants.{Ship, Disc, Qty, Flag, Status}
 use Rattle.column_bins.specs.Column.{bin_count}
-use Rattle.fence_window.specs.Window.{page_count}
+use Rattle.wah_words.specs.Place.{page_count}
 use Rattle.unit_version.specs.declared.base.Base.TheInside.{Inside}
 use Rattle.unit_version.specs.declared.unit.Unit.TheVariants as unit
 use Rattle.unit_version.specs.Content.{content_of, AreContents}

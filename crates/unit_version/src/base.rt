@@ -3,7 +3,7 @@ ghost use Rattle.std.specs.Prelude.{◌≡◌, ◌+◌, ◌<◌, ◌≤◌, leng
 ghost use Rattle.cubit_base.specs.LiveRow.{HasDistinctLiveKeys};
 ghost use Rattle.cubit_base.specs.declared.table.TheConstants.{ROW_LIMIT};
 ghost use Rattle.column_bins.specs.Column.{bin_count};
-ghost use Rattle.fence_window.specs.Window.{page_count};
+ghost use Rattle.wah_words.specs.Place.{page_count};
 ghost use Rattle.unit_version.specs.Content.{content_of, AreContents};
 ghost use Rattle.unit_version.specs.Unit.{IsUnit, unit_count};
 ghost use Rattle.unit_version.specs.declared.unit.Unit.TheVariants as unit;
