@@ -13,11 +13,15 @@
 #include <cstdlib>
 #include <string_view>
 
-static Fenced built(const std::vector<Page> &pages, uint32_t rows)
+/* The list, written page by page as it is read. */
+static Fenced rewritten(const Fenced &list)
 {
-    PageBuilder builder(rows);
-    for (const Page &page : pages)
+    PageBuilder builder(list.bitvector.rows);
+    Page page;
+    for (uint32_t number = 0; number < pages_for(list.bitvector.rows); number++) {
+        list.window(number, page);
         builder.push_page(page);
+    }
     return builder.finish();
 }
 
@@ -222,23 +226,16 @@ static size_t input_count(Kernel kernel)
     }
 }
 
-/* The rows that are true. */
-static std::vector<uint32_t> places_of(const Bitvector &a)
+/* In so many rows one is turned, or true. */
+constexpr uint32_t TOGGLE_ROWS = 65536, SPREAD_ROWS = 84;
+
+static std::vector<uint32_t> each_of(uint32_t step, uint32_t rows)
 {
     std::vector<uint32_t> places;
-    uint32_t first = 0;
-    for (uint32_t word : a) {
-        Run run = run_of(word);
-        for (uint32_t i = 0; i < run.count && run.group != 0; i++)
-            for (uint32_t group = run.group; group != 0; group &= group - 1)
-                places.push_back(first + i * GROUP_ROWS + uint32_t(__builtin_ctz(group)));
-        first += run.count * GROUP_ROWS;
-    }
+    for (uint32_t row = 0; row < rows; row += step)
+        places.push_back(row);
     return places;
 }
-
-/* Every so many rows one is turned. */
-constexpr uint32_t TOGGLE_ROWS = 65536;
 
 static void run_kernel(Kernel kernel, const Fenced *inputs, Checksum &checksum, Times &times)
 {
@@ -258,25 +255,19 @@ static void run_kernel(Kernel kernel, const Fenced *inputs, Checksum &checksum, 
     case Kernel::EXTENDED:
         return run([&] { return extended(a, a.rows + PAGE_ROWS); });
     case Kernel::FROM_PLACES: {
-        std::vector<uint32_t> places = places_of(a);
+        std::vector<uint32_t> places = each_of(SPREAD_ROWS, a.rows);
         return run([&] { return from_places(places, a.rows); });
     }
     case Kernel::TOGGLED: {
-        std::vector<uint32_t> places;
-        for (uint32_t row = 0; row < a.rows; row += TOGGLE_ROWS)
-            places.push_back(row);
+        std::vector<uint32_t> places = each_of(TOGGLE_ROWS, a.rows);
         return run([&] { return toggled(a, places); });
     }
     case Kernel::MAKE: {
         Bitvector copy = extended(a, a.rows);
         return run([&] { return Fenced(std::move(copy)); });
     }
-    case Kernel::BUILD: {
-        std::vector<Page> pages(pages_for(a.rows));
-        for (uint32_t page = 0; page < pages.size(); page++)
-            inputs[0].window(page, pages[page]);
-        return run([&] { return built(pages, a.rows); });
-    }
+    case Kernel::BUILD:
+        return run([&] { return rewritten(inputs[0]); });
     case Kernel::WINDOW:
         return run([&] { return xor_of(inputs[0]); });
     case Kernel::SELECT:
