@@ -8,9 +8,11 @@ pub mod Marks
 pub mod Paged
 pub mod PageRows
 pub mod PagesOfLists
+pub mod PastRows
 pub mod Pointwise
 pub mod Reading
 pub mod Results
+pub mod Shorter
 pub mod Spelled
 pub mod Turned
 pub mod Unique

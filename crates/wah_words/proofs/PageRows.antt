@@ -1,5 +1,5 @@
 -- The true rows of groups, from the lowest bit on.
-use Rattle.std.proofs.Common.{◌≡◌, ℕ, zero, suc, ◌+◌, ◌-◌, ◌*◌, ◌/◌, ◌%◌, ◌^◌, ◌<◌, ◌≤◌, ◌∙◌, Bool, true, false, cond, eqb, List, [], ◌∷◌, ◌++◌, length, get_or, take, set, refl, sym, ap, arith, inl, inr}
+use Rattle.std.proofs.Common.{◌≡◌, ℕ, zero, suc, ◌+◌, ◌-◌, ◌*◌, ◌/◌, ◌%◌, ◌^◌, ◌<◌, ◌≤◌, ◌∙◌, Bool, true, false, eqb, List, [], ◌∷◌, ◌++◌, length, get_or, take, set, refl, sym, ap, arith, inl, inr}
 use Rattle.std.specs.Prelude.{bit_and, count_ones}
 use Rattle.std.specs.Int.Bits.{and_self, and_zero_l}
 use Rattle.std.specs.Int.Count.{count_trailing_zeros}
@@ -100,7 +100,7 @@ true_places-lowest (suc count) (suc j) n first some below within =
           let rest : bit_and n (n - 1) / 2 ≡ bit_and (n / 2) (n / 2 - 1) =
           cleared-half n ∙ ap (bit_and (n / 2)) same in
           let next : first + 1 + count_trailing_zeros (suc j) (n / 2 + 2 ^ j)
-              ≡ first + suc (count_trailing_zeros (suc j) ((n + 2 ^ suc j) / 2)) =
+          ≡ first + suc (count_trailing_zeros (suc j) ((n + 2 ^ suc j) / 2)) =
           omega (arith, ap (count_trailing_zeros (suc j)) half) in
           rw (zero_bit, stopped, even)
           (true_places-lowest count j (n / 2) (first + 1) (omega arith) (omega arith) (omega arith)

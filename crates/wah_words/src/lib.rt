@@ -11,26 +11,22 @@
 //! - `Wah::and`, `or`, `xor`, `not`: the operation on each row. `extended`: the list, and false after it.
 //! - `Wah::count`, `len`: how many rows are true, and how many there are.
 //! - `Wah::words`: the words spell the list (`spelling`), and group k of the words is that of the list (`each_group`).
-//! - `PageWriter`: a list pushed page by page, 128 groups each. `push_page` puts the groups behind those that were
-//!   pushed, and without memory it changes nothing; `finish` gives the list of their first rows, and the start of each
-//!   page in its words.
-//! - `pages_of_list`: the groups of a list's pages hold its rows, and groups that hold some rows are those of that list.
+//! - `PageWriter::push_page`: 128 groups more, or without memory none. `finish`: the list, and where each page starts.
 //! - `true_places`: the numbers of a page's true rows, rising. `true_rows_of`: how many rows of groups are true.
+//! - `pages_of_list`: the groups of a list's pages hold its rows, and groups that hold rows are those of their list.
 //! - `one_spelling`: words that spell one list are the same words, and words spell one list of a length alone.
 //! - `Run::of_word`, `is_literal`: what one word stands for.
 //! - Lists that a call is lent stay as they are, and every call returns.
 //!
 //! # Only tested
 //!
-//! - That each call that may answer `Memory` succeeds, on lists of up to 130,000 rows; those of `PageWriter` by the
-//!   crate `fence_window`, on lists of up to 1,000,000 rows.
+//! - That each call that may answer `Memory` succeeds, on lists of up to 130,000 rows (`PageWriter`: by `fence_window`).
 //! - The words of the form's own examples, in both directions.
 //!
 //! # Not said
 //!
 //! - When there is no memory: `Memory` is free. A call that answers it has let go of what it took.
-//! - Time, and how few words a list takes. An operation takes a step for each run of either list.
-//! - Room: a result's vector may be longer than its words.
+//! - Time, how few words a list takes, and room that a vector has to spare. An operation takes a step for each run.
 //!
 //! # Example
 //!

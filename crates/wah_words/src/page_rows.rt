@@ -109,8 +109,5 @@ fn put_lowest(out: &mut [u16; PAGE_LENGTH], len: usize, first: u16, rows: u64) -
     ensures fewer { 0 < rows → result.1 < rows }
 {
     out[len] = first + (rows + STOP).trailing_zeros() as u16;
-    (
-        len + usize::from(rows != 0),
-        rows & rows.wrapping_sub(1),
-    )
+    (len + usize::from(rows != 0), rows & rows.wrapping_sub(1))
 }

@@ -1,4 +1,4 @@
-use Rattle.std.proofs.Common.{◌≡◌, ◌+◌, ◌<◌, ◌≤◌, ◌%◌, ◌-◌, ◌∙◌, Bool, true, false, not, eqb, ap, arith, inl, inr}
+use Rattle.std.proofs.Common.{◌≡◌, ◌+◌, ◌≤◌, ◌∙◌, Bool, true, false, not, eqb, ap, arith, inl, inr}
 use Rattle.std.proofs.lemmas.Bool.{cases_lt, ne_eqb, eq-eqb}
 use Rattle.std.proofs.lemmas.List.{length-set}
 use Rattle.std.specs.Int.Count.{count_trailing_zeros}
@@ -33,6 +33,6 @@ returns-clause-count c =
       c.told-out,
       c.from.ensures,
       length-set c.args.out.now c.args.len
-      (c.args.first + count_trailing_zeros 64 (c.args.rows + 9223372036854775808)),
+          (c.args.first + count_trailing_zeros 64 (c.args.rows + 9223372036854775808)),
       byte_few (not (eqb c.args.rows 0)),
     ))
