@@ -14,28 +14,6 @@ pub record ArePagesTo (list : List Bool) (pages : ℕ) (groups : List ℕ) : Typ
   pub size : length groups ≡ 128 * pages
   pub each : (k : ℕ) → k < 128 * pages → get_or groups k 0 ≡ group_at list k
 
--- no page
-pub pages_none : (list : List Bool) (groups : List ℕ) → groups ≡ [] → ArePagesTo list 0 groups
-pages_none list groups none = record { size = ap length none; each = λ k below. absurd (omega arith) }
-
--- a page more
-pub pages_more : (list : List Bool) (pages : ℕ) (groups page next : List ℕ) → ArePagesTo list pages groups
-    → IsWindow list pages page → length page ≡ 128 → next ≡ groups ++ page → ArePagesTo list (pages + 1) next
-pages_more list pages groups page next so_far window long is = record {
-  size = omega (arith, ap length is, length-append groups page, so_far.size);
-  each = λ k below.
-      ap (λ gs. get_or gs k 0) is
-      ∙ elim (cases_lt k (length groups)) [
-        | inl before ↦
-            get_or_append_left groups page 0 k before ∙ so_far.each k (omega (arith, so_far.size))
-        | inr after ↦
-            let place : 128 * pages + (k - length groups) ≡ k = omega (arith, so_far.size) in
-            get_or-append_right groups page (length groups) k 0 refl after
-            ∙ window (k - length groups) (omega (arith, so_far.size))
-            ∙ ap (group_at list) place
-      ];
-}
-
 -- all pages, as many as the rows take
 pub pages_all : (list : List Bool) (pages end rows : ℕ) (groups : List ℕ) → ArePagesTo list pages groups → end ≤ pages
     → pages ≤ end → end ≡ page_count rows → rows ≡ length list → SpellPages groups list

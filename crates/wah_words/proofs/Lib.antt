@@ -12,10 +12,12 @@ pub mod Moves
 pub mod Paged
 pub mod PageRows
 pub mod PagesOfLists
+pub mod PastRows
 pub mod Pointwise
 pub mod Reading
 pub mod Results
 pub mod Runs
+pub mod Shorter
 pub mod Spelled
 pub mod Spelling
 pub mod Toggled

@@ -1,7 +1,7 @@
 -- The groups of a list, in whole pages.
-use Rattle.std.proofs.Common.{◌≡◌, ℕ, zero, suc, ◌+◌, ◌-◌, ◌*◌, ◌^◌, ◌<◌, ◌≤◌, ◌∙◌, Bool, false, List, [], ◌∷◌, ◌++◌, length, get_or, take, drop, replicate, refl, sym, ap, arith, inl, inr}
+use Rattle.std.proofs.Common.{◌≡◌, ℕ, suc, ◌+◌, ◌-◌, ◌*◌, ◌^◌, ◌<◌, ◌≤◌, ◌∙◌, Bool, false, List, [], ◌∷◌, ◌++◌, length, get_or, take, drop, replicate, refl, sym, ap, arith, inl, inr}
 use Rattle.std.specs.Prelude.{All}
-use Rattle.std.proofs.lemmas.List.{append-nil, append_assoc, length-take, length-take-le, length-drop, length-replicate, take_all, drop_all, take_at, drop_at, take-append-drop, drop-drop, replicate-append-replicate, nil_from_length}
+use Rattle.std.proofs.lemmas.List.{append-nil, append_assoc, length-take, length-take-le, length-drop, take_all, drop_all, take_at, drop_at, take-append-drop, drop-drop, replicate-append-replicate, nil_from_length}
 use Rattle.std.proofs.lemmas.List.Elements.{All-replicate}
 use Rattle.std.proofs.lemmas.Bool.{cases_lt}
 use lib.Lanes.{mask_l}
@@ -14,7 +14,8 @@ use Rattle.wah_words.proofs.Groups.{group_from_rows, mask-drop_padded}
 use Rattle.wah_words.proofs.Spelled.{length-unpacked, false_list}
 
 -- the rows of a list's first group
-first_rows : (list : List Bool) → group_rows (mask_l (take 31 list)) ≡ take 31 list ++ replicate (31 - length list) false
+first_rows : (list : List Bool)
+    → group_rows (mask_l (take 31 list)) ≡ take 31 list ++ replicate (31 - length list) false
 unfolding group_rows
 first_rows list =
     elim (cases_lt (length list) 31) [

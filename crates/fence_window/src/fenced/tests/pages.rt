@@ -57,7 +57,10 @@ fn has_places(rt: &impl Abort, fenced: &Fenced, number: u32, rows: &[bool]) {
     let rows = rows.iter().skip(number as usize * PAGE_ROWS as usize);
     for (place, row) in rows.take(PAGE_ROWS as usize).enumerate() {
         if *row {
-            assert!(rt; found.next().is_some_and(|it| usize::from(*it) == place), "page {number}");
+            assert!(rt;
+                found.next().is_some_and(|it| usize::from(*it) == place),
+                "page {number}"
+            );
         }
     }
     assert!(rt; found.next().is_none(), "page {number}");

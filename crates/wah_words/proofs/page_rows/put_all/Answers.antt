@@ -1,4 +1,4 @@
-use Rattle.std.proofs.Common.{◌+◌, ◌<◌, ◌∙◌, ap, arith, length}
+use Rattle.std.proofs.Common.{ap, arith, length}
 use Rattle.wah_words.specs.Group.{low_bits}
 use Rattle.wah_words.specs.Rows.{true_places}
 use Rattle.wah_words.proofs.PageRows.{some_place, all_written, true_places-zero}

@@ -1,4 +1,4 @@
-use Rattle.std.proofs.Common.{◌+◌, ◌≤◌, ◌∙◌, arith}
+use Rattle.std.proofs.Common.{◌∙◌, arith}
 use Rattle.wah_words.proofs.PageRows.{all_written, length-places-le}
 use Rattle.wah_words.proofs.page_rows.put_places.Goals as goal
 

@@ -1,5 +1,5 @@
-use Rattle.std.proofs.Common.{◌≡◌, ◌+◌, ◌*◌, ◌<◌, ◌∙◌, ◌++◌, ap, arith, refl, take}
-use Rattle.wah_words.specs.Group.{low_bits, unpacked}
+use Rattle.std.proofs.Common.{◌*◌, ◌∙◌, ◌++◌, ap, arith, refl}
+use Rattle.wah_words.specs.Group.{low_bits}
 use Rattle.wah_words.specs.Rows.{true_places}
 use Rattle.wah_words.proofs.PageRows.{IsPair, places_more}
 use Rattle.wah_words.proofs.page_rows.true_places.Goals as goal

@@ -1,4 +1,4 @@
-use Rattle.std.proofs.Common.{◌≡◌, ◌+◌, ◌-◌, ◌*◌, ◌/◌, ◌<◌, ◌∙◌, ap, arith, get_or, length}
+use Rattle.std.proofs.Common.{◌≡◌, ◌+◌, ◌-◌, ◌*◌, ◌∙◌, ap, arith, get_or, length}
 use Rattle.std.specs.Prelude.{count_ones}
 use Rattle.wah_words.proofs.PageRows.{IsPair, rows_more, rows-le, rows_last}
 use Rattle.wah_words.proofs.page_rows.true_rows_of.Goals as goal
