@@ -204,7 +204,12 @@ pub places_more : (gs : List ℕ) (p rows : ℕ) → IsPair gs p rows
 places_more gs p rows pair =
     let front = unpacked (take (2 * p) gs) in
     let size : 62 * p ≡ 0 + length front =
-    omega (arith, pair.inside, length-unpacked (take (2 * p) gs), length-take-le (2 * p) gs (omega (arith, pair.inside)))
+    omega (
+      arith,
+      pair.inside,
+      length-unpacked (take (2 * p) gs),
+      length-take-le (2 * p) gs (omega (arith, pair.inside)),
+    )
     in
     ap (λ n. true_places 0 front ++ true_places n (low_bits 62 rows)) size
     ∙ sym (true_places-append 0 front (low_bits 62 rows))

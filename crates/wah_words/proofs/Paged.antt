@@ -173,7 +173,8 @@ start_stays words run page written next before place opened fill is below start 
                   arith,
                   counted,
                   start.count,
-                  ap (λ front. length (groups front)) (ap (λ n. take n words) (sym here) ∙ take_all (length words) words (omega arith)),
+                  ap (λ front. length (groups front))
+                      (ap (λ n. take n words) (sym here) ∙ take_all (length words) words (omega arith)),
                   ap (λ n. run_count (get_or (words ++ written) n 0)) here,
                   ap length (flat_map-append word_groups words (underway run)),
                   length-append (groups words) (groups (underway run)),

@@ -39,7 +39,8 @@ pub fn true_rows_of(groups: &[u32]) -> u32
 {
     let mut total = 0;
     for pair in 0..groups.len() / 2 {
-        // One count of 64 bits takes both groups. Two of 32 bits would be made by shuffles of bytes, which takes longer.
+        // One count of 64 bits takes both groups. Two of 32 bits would be made by shuffles of bytes, which takes
+        // longer.
         total += pair_rows(groups[2 * pair], groups[2 * pair + 1]).count_ones();
     }
     if groups.len() % 2 == 0 {
