@@ -9,3 +9,5 @@ mod Rising
 mod RowBits
 mod SortedCodes
 mod SplitRows
+mod Tiles
+mod Written

@@ -7,4 +7,5 @@ pub mod Packed
 pub mod RowBins
 pub mod Search
 pub mod Split
+pub mod Tile
 pub mod Unit

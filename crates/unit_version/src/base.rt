@@ -9,6 +9,7 @@ ghost use Rattle.unit_version.specs.Unit.{IsUnit, unit_count};
 ghost use Rattle.unit_version.specs.declared.unit.Unit.TheVariants as unit;
 
 mod bits;
+mod tile;
 
 use crate::keys::key_pages;
 use crate::{Content, Memory, Page, Unit};

@@ -1,20 +1,23 @@
 //! The bitvectors of a table: which rows are live, and which live rows are in a bin.
-ghost use Rattle.std.specs.Prelude.{◌≡◌, ◌==◌, ◌<◌, ◌≤◌, ◌^◌, length, map, IfOk};
+ghost use Rattle.std.specs.Prelude.{◌≡◌, ◌<◌, ◌≤◌, [], length, map, replicate, slice_index_or, IfOk, OnOk, ◌*◌};
 ghost use Rattle.cubit_base.specs.Key.{KeyValue};
 ghost use Rattle.cubit_base.specs.declared.table.TheConstants.{ROW_LIMIT};
 ghost use Rattle.column_bins.specs.Column.{bin_count};
 ghost use Rattle.unit_version.specs.Content.{content_of, AreContents};
 ghost use Rattle.unit_version.specs.RowBins.{row_bin};
+ghost use Rattle.unit_version.specs.Tile.{ArePageBins, AreWritten};
+ghost use Rattle.wah_words.specs.Place.{page_count};
 ghost use Rattle.unit_version.specs.declared.unit.Unit.TheVariants as unit;
 
+use super::tile::{BIN_NUMBERS, PageBins, fill, push_page};
 use crate::{Content, Memory};
 use column_bins::{Column, bin_of};
 use cubit_base::{Table, Tuple};
-use fence_window::Fenced;
+use fence_window::{Fenced, PAGE_ROWS, PageWriter};
 use std::alloc::Global;
-use wah_words::Wah;
+use wah_words::{Wah, laws, pages_of_list};
 
-// What stands for the bin of a row that is not live.
+// What stands for the bin of a row that is not live, or past the last row.
 const NO_BIN: u8 = 255;
 
 const _: () = prove!(NO_BIN == 255);
@@ -32,7 +35,8 @@ pub(crate) fn live_content(alloc: Global, table: &Table) -> Result<Content, Memo
     Ok(Content::Bits(Fenced::make(alloc, wah)?))
 }
 
-/// Which live rows are in each bin of the column.
+/// Which live rows are in each bin of the column. It takes one pass over the rows, and room for a word for each bin and
+/// each 31 rows.
 pub(crate) fn bin_contents(
     alloc: Global,
     table: &Table,
@@ -40,13 +44,61 @@ pub(crate) fn bin_contents(
 ) -> Result<Vec<Content>, Memory>
     ensures { IfOk result (λ contents. AreContents (unit.Bin column) table.now (bin_count column) contents.items) }
 {
-    let bins = row_bins(alloc, table, column)?;
+    laws::groups();
+    pages_of_list();
+    let mut lists = written_lists(alloc, table, column)?;
     let count = bin_count(column);
     let mut contents = Vec::with_capacity(alloc, usize::from(count))?;
-    for bin in 0..count {
-        contents.push(Content::Bits(rows_of_bin(alloc, &bins, bin)?))?;
+    for _bin in 0..count {
+        let list = Fenced::from_pages(lists.remove(0), table.len())?;
+        contents.push(Content::Bits(list))?;
     }
     Ok(contents)
+}
+
+// The pages of each bin.
+fn written_lists(alloc: Global, table: &Table, column: Column) -> Result<Vec<PageWriter>, Memory>
+    ensures { IfOk result (λ lists.
+        AreWritten (map (row_bin column) table.now) (page_count (length table.now)) 0 (bin_count column) lists.items) }
+{
+    let count = usize::from(bin_count(column));
+    let mut lists = empty_lists(alloc, count, table.len().div_ceil(PAGE_ROWS))?;
+    let mut tile = vec![in alloc; 0; BIN_NUMBERS * count]?;
+    write_pages(&mut lists, &mut tile, table, column)?;
+    Ok(lists)
+}
+
+// Writes all pages of each bin, one after another by way of the tile.
+fn write_pages(
+    lists: &mut [PageWriter],
+    tile: &mut [u32],
+    table: &Table,
+    column: Column,
+) -> Result<(), Memory>
+    requires none { lists.old ≡ replicate (bin_count column) [] }
+    requires whole { length tile.old ≡ 144 * length lists.old }
+    ensures { OnOk result (AreWritten (map (row_bin column) table.now) (page_count (length table.now)) 0
+        (bin_count column) lists.new) }
+{
+    laws::groups();
+    let mut bins = [NO_BIN; PAGE_ROWS as usize];
+    for page in 0..table.len().div_ceil(PAGE_ROWS) {
+        read_bins(&mut bins, table, column, page);
+        fill(tile, &bins);
+        push_page(lists, tile)?;
+    }
+    Ok(())
+}
+
+// So many lists with nothing in them, and with room for so many pages.
+fn empty_lists(alloc: Global, count: usize, pages: u32) -> Result<Vec<PageWriter>, Memory>
+    ensures { IfOk result (λ lists. lists.items ≡ replicate count []) }
+{
+    let mut lists = Vec::with_capacity(alloc, count)?;
+    for _list in 0..count {
+        lists.push(PageWriter::with_capacity(alloc, pages)?)?;
+    }
+    Ok(lists)
 }
 
 // How many bins a column has.
@@ -63,17 +115,26 @@ fn bin_count(column: Column) -> u8
     }
 }
 
-// The bin of each row.
-fn row_bins(alloc: Global, table: &Table, column: Column) -> Result<Vec<u8>, Memory>
-    ensures value { IfOk result (λ bins. bins.items ≡ map (row_bin column) table.now) }
-    ensures few { IfOk result (λ bins. length bins.items ≤ ROW_LIMIT) }
+// Reads the bins of the rows of a page.
+fn read_bins(bins: &mut PageBins, table: &Table, column: Column, page: u32)
+    requires { page ≤ page_count ROW_LIMIT }
+    ensures { ArePageBins (map (row_bin column) table.now) page bins.new }
 {
-    let mut bins = Vec::with_capacity(alloc, table.len() as usize)?;
-    for row in 0..table.len() {
-        let (_, tuple) = table.row(row).unwrap();
-        bins.push(bin_or_none(column, &tuple))?;
+    let first = PAGE_ROWS * page;
+    for at in 0..PAGE_ROWS {
+        bins[at as usize] = bin_at(table, column, first + at);
     }
-    Ok(bins)
+}
+
+// The bin of a row.
+#[inline(always)]
+fn bin_at(table: &Table, column: Column, row: u32) -> u8
+    ensures { result ≡ slice_index_or (map (row_bin column) table.now) row 255 }
+{
+    match table.row(row) {
+        Some((_, tuple)) => bin_or_none(column, &tuple),
+        None => NO_BIN,
+    }
 }
 
 // The bin of a row with this tuple or none.
@@ -85,16 +146,4 @@ fn bin_or_none(column: Column, tuple: &Option<Tuple>) -> u8
         Some(tuple) => bin_of(column, tuple),
         None => NO_BIN,
     }
-}
-
-// Which rows are of this bin.
-fn rows_of_bin(alloc: Global, bins: &[u8], bin: u8) -> Result<Fenced, Memory>
-    requires { length bins.now < 2 ^ 32 }
-    ensures { IfOk result (λ fenced. fenced ≡ map (λ b. b == bin) bins.now) }
-{
-    let mut rows = Vec::with_capacity(alloc, bins.len())?;
-    for row in bins {
-        rows.push(*row == bin)?;
-    }
-    Fenced::make(alloc, Wah::from_rows(alloc, &rows)?)
 }
