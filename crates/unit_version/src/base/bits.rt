@@ -2,9 +2,10 @@
 ghost use Rattle.std.specs.Prelude.{◌≡◌, ◌<◌, ◌≤◌, [], length, map, replicate, slice_index_or, IfOk, OnOk, ◌*◌};
 ghost use Rattle.cubit_base.specs.Key.{KeyValue};
 ghost use Rattle.cubit_base.specs.declared.table.TheConstants.{ROW_LIMIT};
-ghost use Rattle.column_bins.specs.Column.{bin_count};
+ghost use Rattle.column_bins.specs.Column.{bin_count, tuple_bin};
+ghost use Rattle.column_bins.specs.Month.{month_of};
 ghost use Rattle.unit_version.specs.Content.{content_of, AreContents};
-ghost use Rattle.unit_version.specs.RowBins.{row_bin};
+ghost use Rattle.unit_version.specs.RowBins.{AreMonths, row_bin};
 ghost use Rattle.unit_version.specs.Tile.{ArePageBins, AreWritten};
 ghost use Rattle.wah_words.specs.Place.{page_count};
 ghost use Rattle.unit_version.specs.declared.unit.Unit.TheVariants as unit;
@@ -12,7 +13,7 @@ ghost use Rattle.unit_version.specs.declared.unit.Unit.TheVariants as unit;
 use super::tile::{BIN_NUMBERS, PageBins, fill, push_page};
 use crate::{Content, Memory};
 use column_bins::{Column, bin_of};
-use cubit_base::{Table, Tuple};
+use cubit_base::{Flag, LineStatus, Table, Tuple};
 use fence_window::{Fenced, PAGE_ROWS, PageWriter};
 use std::alloc::Global;
 use wah_words::{Wah, laws, pages_of_list};
@@ -21,6 +22,14 @@ use wah_words::{Wah, laws, pages_of_list};
 const NO_BIN: u8 = 255;
 
 const _: () = prove!(NO_BIN == 255);
+
+// The days of the years 1992 to 1998.
+const DAYS: usize = 2_557;
+
+const _: () = prove!(DAYS == 2_557);
+
+// The month of each day, counted from January 1992.
+type Months = [u8; DAYS];
 
 /// Which rows are live.
 pub(crate) fn live_content(alloc: Global, table: &Table) -> Result<Content, Memory>
@@ -81,9 +90,10 @@ fn write_pages(
         (bin_count column) lists.new) }
 {
     laws::groups();
+    let months = months_of_days();
     let mut bins = [NO_BIN; PAGE_ROWS as usize];
     for page in 0..table.len().div_ceil(PAGE_ROWS) {
-        read_bins(&mut bins, table, column, page);
+        read_bins(&mut bins, table, column, &months, page);
         fill(tile, &bins);
         push_page(lists, tile)?;
     }
@@ -115,35 +125,94 @@ fn bin_count(column: Column) -> u8
     }
 }
 
-// Reads the bins of the rows of a page.
-fn read_bins(bins: &mut PageBins, table: &Table, column: Column, page: u32)
-    requires { page ≤ page_count ROW_LIMIT }
+// The month of each day, since to find a date takes long for each row.
+fn months_of_days() -> Months
+    ensures { AreMonths result }
+{
+    let mut months = [0; DAYS];
+    for day in 0..DAYS {
+        months[day] = month_of(day as u16);
+    }
+    months
+}
+
+// The month of a day.
+fn month_of(day: u16) -> u8
+    requires { day < 2557 }
+    ensures { result ≡ month_of day }
+{
+    let tuple = Tuple {
+        price: 0,
+        day,
+        qty: 1,
+        disc: 0,
+        tax: 0,
+        flag: Flag::A,
+        status: LineStatus::F,
+    };
+    bin_of(Column::Ship, &tuple)
+}
+
+// Reads the bins of the rows of a page. Each column has a loop of its own, in which nothing is chosen.
+fn read_bins(bins: &mut PageBins, table: &Table, column: Column, months: &Months, page: u32)
+    requires page { page ≤ page_count ROW_LIMIT }
+    requires months { AreMonths months.now }
+    ensures { ArePageBins (map (row_bin column) table.now) page bins.new }
+{
+    match column {
+        Column::Ship => read_column(bins, table, Column::Ship, months, page),
+        Column::Disc => read_column(bins, table, Column::Disc, months, page),
+        Column::Qty => read_column(bins, table, Column::Qty, months, page),
+        Column::Flag => read_column(bins, table, Column::Flag, months, page),
+        Column::Status => read_column(bins, table, Column::Status, months, page),
+    }
+}
+
+// The same, for a column that the caller writes out.
+#[inline(always)]
+fn read_column(bins: &mut PageBins, table: &Table, column: Column, months: &Months, page: u32)
+    requires page { page ≤ page_count ROW_LIMIT }
+    requires months { AreMonths months.now }
     ensures { ArePageBins (map (row_bin column) table.now) page bins.new }
 {
     let first = PAGE_ROWS * page;
     for at in 0..PAGE_ROWS {
-        bins[at as usize] = bin_at(table, column, first + at);
+        bins[at as usize] = bin_at(table, column, months, first + at);
     }
 }
 
 // The bin of a row.
 #[inline(always)]
-fn bin_at(table: &Table, column: Column, row: u32) -> u8
+fn bin_at(table: &Table, column: Column, months: &Months, row: u32) -> u8
+    requires { AreMonths months.now }
     ensures { result ≡ slice_index_or (map (row_bin column) table.now) row 255 }
 {
     match table.row(row) {
-        Some((_, tuple)) => bin_or_none(column, &tuple),
+        Some((_, tuple)) => bin_or_none(column, months, &tuple),
         None => NO_BIN,
     }
 }
 
 // The bin of a row with this tuple or none.
 #[inline(always)]
-fn bin_or_none(column: Column, tuple: &Option<Tuple>) -> u8
+fn bin_or_none(column: Column, months: &Months, tuple: &Option<Tuple>) -> u8
+    requires { AreMonths months.now }
     ensures { (key : KeyValue) → result ≡ row_bin column (key, tuple.now) }
 {
     match tuple {
-        Some(tuple) => bin_of(column, tuple),
+        Some(tuple) => bin_of_tuple(column, months, tuple),
         None => NO_BIN,
+    }
+}
+
+// The bin of a tuple.
+#[inline(always)]
+fn bin_of_tuple(column: Column, months: &Months, tuple: &Tuple) -> u8
+    requires { AreMonths months.now }
+    ensures { result ≡ tuple_bin column tuple.now }
+{
+    match column {
+        Column::Ship => months[usize::from(tuple.day)],
+        Column::Disc | Column::Qty | Column::Flag | Column::Status => bin_of(column, tuple),
     }
 }

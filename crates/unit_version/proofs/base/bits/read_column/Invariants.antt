@@ -1,6 +1,6 @@
 use Rattle.std.proofs.Common.{◌≡◌, ℕ, ◌+◌, ◌*◌, ◌<◌, map, get_or}
 use Rattle.unit_version.specs.RowBins.{row_bin}
-use Rattle.unit_version.proofs.base.bits.read_bins.Given as goal
+use Rattle.unit_version.proofs.base.bits.read_column.Given as goal
 
 abbrev pub invariant-loop-at : goal.invariant-loop-at
 invariant-loop-at l =
