@@ -155,5 +155,6 @@ pub IsTile-past : (bins tile : List ℕ) (b g at : ℕ) → IsTile bins tile →
     → length tile ≤ 144 * b + g → IsTile (bins ++ b ∷ []) tile
 IsTile-past bins tile b g at is long low past = record {
   each = λ bin k few inside.
-      is.each bin k few inside ∙ sym (stays bins b g at bin k long low (λ same. absurd (omega (arith, same, past, inside))));
+      is.each bin k few inside
+      ∙ sym (stays bins b g at bin k long low (λ same. absurd (omega (arith, same, past, inside))));
 }

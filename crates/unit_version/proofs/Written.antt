@@ -26,7 +26,8 @@ tile-within within bins tile is i d low =
     rw at (within (rows_of (i / 144) bins) (i % 144))
 
 -- a row of a bin
-rows_of-row : (bin : ℕ) (bins : List ℕ) (i : ℕ) → bin < 255 → get_or (rows_of bin bins) i false ≡ (get_or bins i 255 == bin)
+rows_of-row : (bin : ℕ) (bins : List ℕ) (i : ℕ) → bin < 255
+    → get_or (rows_of bin bins) i false ≡ (get_or bins i 255 == bin)
 rows_of-row bin bins i low =
     let none : (255 == bin) ≡ false = grind (arith, nat_tests) in
     ap (λ row. get_or (rows_of bin bins) i row) (sym none) ∙ get_or-map (λ b. b == bin) bins i 255
@@ -70,7 +71,8 @@ AreWritten-more bins part tile page count old new few are page_bins is long push
       let within : k < length old = omega (arith, low, pushed.long) in
       let own = page_of tile k in
       let room : 144 * k + 128 ≤ length tile = omega (arith, within, long) in
-      let size : length own ≡ 128 = length-take-le 128 (drop (144 * k) tile) (omega (arith, length-drop (144 * k) tile, room)) in
+      let size : length own ≡ 128 =
+      length-take-le 128 (drop (144 * k) tile) (omega (arith, length-drop (144 * k) tile, room)) in
       let here : 0 + k ≡ k = omega arith in
       let before = rw here at (are.each k within) in
       rw (here, pushed.each k within)
@@ -90,18 +92,21 @@ AreWritten-rest bins pages first after lists some are =
       long = omega (arith, are.long, long, some);
       each = λ k low.
           let there : first + 1 + k ≡ first + (k + 1) = omega arith in
-          rw (get_or-remove_above lists 0 [] k (omega arith) some, there) (are.each (k + 1) (omega (arith, low, long, some)));
+          rw (get_or-remove_above lists 0 [] k (omega arith) some, there)
+          (are.each (k + 1) (omega (arith, low, long, some)));
     }
 
 -- all pages are those of the list
 pub all_pages : ((list : List Bool) (k : ℕ) → group_count (length list) ≤ k → group_at list k ≡ 0)
-    → (list : List Bool) (groups : List ℕ) → AreFirstPages list (page_count (length list)) groups → SpellPages groups list
+    → (list : List Bool) (groups : List ℕ) → AreFirstPages list (page_count (length list)) groups
+    → SpellPages groups list
 all_pages past list groups are = record {
   long = are.long;
   each = λ k.
       elim (cases_lt k (128 * page_count (length list))) [
         | inl within ↦ are.each k within
-        | inr behind ↦ get_or_past groups k 0 (omega (arith, behind, are.long)) ∙ sym (past list k (omega (arith, behind)))
+        | inr behind ↦
+            get_or_past groups k 0 (omega (arith, behind, are.long)) ∙ sym (past list k (omega (arith, behind)))
       ];
 }
 

@@ -20,7 +20,8 @@ loop-at-preserved c =
     let before = c.loop-at.invariant in
     elim c.if-place-tile.branch [
       | then-place-tile w ↦ rw (more, w.tile-is)
-          (IsTile-set (take row bins) tile bin g at before long c.loop-at-test.true c.requires.within w.if-place-tile.true)
+          (IsTile-set (take row bins) tile bin g at before long c.loop-at-test.true c.requires.within
+          w.if-place-tile.true)
       | else-place-tile w ↦ rw (more, w.tile-is)
           (IsTile-past (take row bins) tile bin g at before long c.loop-at-test.true w.if-place-tile.false)
     ]
