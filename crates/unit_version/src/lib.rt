@@ -22,7 +22,7 @@
 //!
 //! # Only tested
 //!
-//! - That `build` succeeds, on tables of up to 3,968 rows.
+//! - That `build` succeeds, on tables of up to 4,500 rows.
 //!
 //! # Not said
 //!

@@ -164,7 +164,7 @@ fn bit(content: &Content, row: u32) -> bool {
 
 #[test]
 fn bits_are_those_of_the_rows(rt: HostRuntime) -> Result<(), Fail> {
-    let (base, table) = base_of(rt.alloc(), 400)?;
+    let (base, table) = base_of(rt.alloc(), 4_500)?;
     for row in 0..table.len() {
         let (_, tuple) = table.row(row).unwrap();
         assert_eq!(rt; bit(base.content(Unit::Live), row), tuple.is_some());
