@@ -21,6 +21,13 @@ pub(crate) fn advanced(words: &[u32], place: Place, groups: u32) -> Place
         return end;
     }
     let wanted = place.skipped + groups;
+    // A long fill holds whole pages.
+    if wanted < Run::of_word(words[place.word]).count {
+        return Place {
+            word: place.word,
+            skipped: wanted,
+        };
+    }
     let front = front_within(&words[place.word..], wanted);
     let word = place.word + front.words;
     if word == words.len() {
