@@ -8,9 +8,11 @@ use unit_version::Unit;
 
 // Where the key pages begin, and where the pages do.
 const FIRST_KEYS: usize = 151;
+
 const FIRST_PAGE: usize = 215;
 
 const _: () = prove!(FIRST_KEYS == 1 + 84 + 11 + 50 + 3 + 2);
+
 const _: () = prove!(FIRST_PAGE == FIRST_KEYS + 64);
 
 /// The place of a unit of an index with so many pages.
