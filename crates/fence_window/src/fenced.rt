@@ -1,7 +1,9 @@
 //! Bitvectors with a fence for each page.
-ghost use Rattle.std.specs.Prelude.{ℕ, ◌≡◌, ◌+◌, ◌*◌, ◌<◌, IfOk, length, take, slice_get, slice_index, bit_or};
+ghost use Rattle.std.specs.Prelude.{ℕ, ◌≡◌, ◌+◌, ◌*◌, ◌<◌, ◌≤◌, All, IfOk, length, take, slice_get, slice_index, bit_or};
+ghost use Rattle.std.specs.List.Sorted.{IsStrictlyIncreasing};
 ghost use Rattle.wah_words.specs.Group.{group_at, unpacked};
 ghost use Rattle.wah_words.specs.Place.{ArePagesOf, HasFences};
+ghost use Rattle.wah_words.specs.Rows.{IsToggled};
 ghost use Rattle.fence_window.specs.Ors.{IsOrInto};
 ghost use Rattle.fence_window.specs.Window.{IsWindow};
 
@@ -58,6 +60,17 @@ impl Fenced {
         ensures { result.now ≡ self.now }
     {
         &self.wah
+    }
+
+    /// The list with false after it up to `rows`, and then with the rows at these places turned.
+    pub fn toggled(&self, alloc: Global, places: &[u32], rows: u32) -> Result<Fenced, Memory>
+        requires rising { IsStrictlyIncreasing places.now }
+        requires below { All (λ place. place < rows) places.now }
+        requires longer { length self.now ≤ rows }
+        ensures length { IfOk result (λ fenced. length fenced ≡ rows) }
+        ensures rows { IfOk result (λ fenced. IsToggled self.now places.now fenced) }
+    {
+        Fenced::make(alloc, self.wah.toggled(alloc, places, rows)?)
     }
 
     /// Writes the groups of a page, and 0 where there are none. It takes no memory.

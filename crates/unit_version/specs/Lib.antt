@@ -1,11 +1,15 @@
 pub mod Base
 pub mod BaseValue
+pub mod Changes
 pub mod Content
 pub mod Entry
+pub mod Inverse
 pub mod KeyedRow
 pub mod Packed
+pub mod Patch
 pub mod RowBins
 pub mod Search
+pub mod Span
 pub mod Split
 pub mod Tile
 pub mod Unit

@@ -7,16 +7,21 @@ ghost use Rattle.unit_version.specs.Entry.{keyed};
 ghost use Rattle.unit_version.specs.declared.unit.Unit.TheVariants as unit;
 
 mod entry;
+mod merged;
 mod order;
 mod search;
 mod split;
 
+use crate::changes::KeyChange;
 use crate::{Content, Memory};
 use cubit_base::{Key, Table, Tuple};
-use entry::{Entry, code_of, rest_of};
+use entry::Entry;
+pub(crate) use entry::{code_of, rest_of};
+use merged::merged;
 use order::{sort, tops_of};
 use search::place_of;
-use split::{KEY_PAGES, split};
+pub(crate) use split::KEY_PAGES;
+use split::split;
 use std::alloc::Global;
 use std::marker::Model;
 
@@ -55,6 +60,25 @@ impl Keys {
         let place = place_of(&self.entries, &self.tops, code_of(key))?;
         let entry = &self.entries[place];
         Some((entry.row, entry.tuple.tuple()))
+    }
+
+    /// The key page after the changes of its keys, where it is that of this rest. It takes a copy of the entries, and a
+    /// step for each change.
+    pub(crate) fn patched(
+        &self,
+        alloc: Global,
+        rest: u8,
+        changes: &[KeyChange],
+    ) -> Result<Keys, Memory>
+        requires low { rest < 64 }
+    {
+        let entries = merged(alloc, &self.entries, &self.tops, changes)?;
+        let tops = tops_of(alloc, &entries)?;
+        Ok(Keys {
+            rest,
+            entries,
+            tops,
+        })
     }
 
     // The key page of entries in any order.

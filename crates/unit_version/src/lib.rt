@@ -40,18 +40,22 @@
 #![tactic(auto)]
 
 mod base;
+mod changes;
 mod content;
 mod keys;
 pub mod laws;
 mod packed;
 mod page;
+mod patch;
 #[cfg(test)]
 mod tests;
 mod unit;
 
 pub use base::Base;
+pub use changes::Changes;
 pub use content::Content;
 pub use cubit_base::Memory;
 pub use keys::Keys;
 pub use page::Page;
+pub use patch::{patched, patched_by};
 pub use unit::Unit;

@@ -6,7 +6,7 @@ use cubit_base::{Flag, LineStatus, Tuple};
 use std::marker::Model;
 
 /// A tuple in one word; contracts see the tuple.
-#[derive(Drop)]
+#[derive(Clone, Copy)]
 pub(crate) struct PackedTuple {
     word: u64,
 }
@@ -19,10 +19,16 @@ impl Model for PackedTuple {
     ghost Value = { TupleValue };
 
     ghost use Rattle.unit_version.specs.Packed.{unpacked, IsPacked};
+    ghost use Rattle.cubit_base.specs.Word.{tuple_word};
+    ghost use Rattle.unit_version.specs.Inverse.{packed_again};
 
     ghost view = { λ p. unpacked p.word };
 
     ghost invariant = { λ p. IsPacked p.word };
+
+    ghost inverse = { λ t. record { word = tuple_word t } };
+
+    ghost inverse_ok = { λ p is. packed_again p is };
 }
 
 impl PackedTuple {
@@ -45,7 +51,7 @@ impl PackedTuple {
 }
 
 /// A tuple or none in one word, which is 0 for none; contracts see the tuple or none.
-#[derive(Drop)]
+#[derive(Clone, Copy)]
 pub(crate) struct Slot {
     word: u64,
 }
@@ -59,10 +65,16 @@ impl Model for Slot {
     ghost Value = { Option TupleValue };
 
     ghost use Rattle.unit_version.specs.Packed.{held, IsHeld};
+    ghost use Rattle.cubit_base.specs.Word.{word_of};
+    ghost use Rattle.unit_version.specs.Inverse.{held_again};
 
     ghost view = { λ s. held s.word };
 
     ghost invariant = { λ s. IsHeld s.word };
+
+    ghost inverse = { λ t. record { word = word_of t } };
+
+    ghost inverse_ok = { λ s is. held_again s is };
 }
 
 impl Slot {

@@ -5,6 +5,7 @@ ghost use Rattle.cubit_base.specs.declared.table.TheConstants.{ROW_LIMIT};
 ghost use Rattle.unit_version.specs.Content.{tuples_from};
 
 use crate::Memory;
+use crate::changes::{RowChange, first_from};
 use crate::packed::Slot;
 use cubit_base::{Steps, Table, Tuple};
 use fence_window::PAGE_ROWS;
@@ -39,6 +40,28 @@ impl Page {
     {
         reads.tick(1);
         self.slots[usize::from(at)].tuple()
+    }
+
+    /// The page with this number after changes of rows. It takes a copy of the words, and a step for each change of it.
+    pub(crate) fn patched(
+        &self,
+        alloc: Global,
+        page: u32,
+        changes: &[RowChange],
+    ) -> Result<Page, Memory>
+        requires page { 3_968 * page ≤ ROW_LIMIT }
+    {
+        let mut slots = Vec::with_capacity(alloc, PAGE_ROWS as usize)?;
+        slots.extend_from_slice(&self.slots)?;
+        let first = PAGE_ROWS * page;
+        let from = first_from(changes, first);
+        for change in &changes[from..] {
+            if change.row - first >= PAGE_ROWS {
+                break;
+            }
+            slots[(change.row - first) as usize] = change.after;
+        }
+        Ok(Page { slots })
     }
 
     /// The page with this number of a table's rows.

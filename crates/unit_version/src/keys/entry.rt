@@ -6,7 +6,7 @@ use crate::packed::PackedTuple;
 use cubit_base::Key;
 
 /// A live row in 16 bytes.
-#[derive(Drop)]
+#[derive(Clone, Copy)]
 pub(crate) struct Entry {
     /// The key within its page: keys of one rest rise with it.
     pub(crate) code: u32,

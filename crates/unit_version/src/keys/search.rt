@@ -24,9 +24,9 @@ pub(crate) fn place_of(entries: &[Entry], tops: &[u32], code: u32) -> Option<usi
     }
 }
 
-// The place behind the last entry whose code is not above this one.
+/// The place behind the last entry whose code is not above this one.
 #[inline(always)]
-fn near_entries(entries: &[Entry], tops: &[u32], code: u32) -> usize
+pub(crate) fn near_entries(entries: &[Entry], tops: &[u32], code: u32) -> usize
     requires rising { IsStrictlyIncreasing (codes entries.now) }
     requires tops { AreTops (codes entries.now) tops.now }
     ensures { IsNear (codes entries.now) code result }
