@@ -8,6 +8,8 @@ mod PageTuples
 mod Rising
 mod RowBits
 mod SortedCodes
+mod Spans
 mod SplitRows
 mod Tiles
+mod TurnedLists
 mod Written

@@ -12,4 +12,5 @@ pub mod Search
 pub mod Span
 pub mod Split
 pub mod Tile
+pub mod Turned
 pub mod Unit

@@ -1,6 +1,6 @@
 //! Deltas of one row, or of one key, found by a sort of their numbers.
-ghost use Rattle.std.specs.Prelude.{◌≡◌, ◌<◌, ◌^◌, All, IfOk, length};
-ghost use Rattle.unit_version.specs.Span.{AreSpans};
+ghost use Rattle.std.specs.Prelude.{ℕ, ◌≡◌, ◌/◌, ◌%◌, ◌^◌, ◌≤◌, [], ◌∷◌, ◌++◌, List, All, IfOk, OnOk};
+ghost use Rattle.unit_version.specs.Span.{AreSpans, tag_of};
 
 use crate::Memory;
 use std::alloc::Global;
@@ -29,19 +29,23 @@ pub(crate) fn spans_of(alloc: Global, tags: Vec<u64>) -> Result<Vec<Span>, Memor
     tags.sort_unstable();
     let mut spans = Vec::with_capacity(alloc, tags.len())?;
     for tag in &tags {
-        add(&mut spans, (*tag >> 32) as u32, (*tag & 0xffff_ffff) as u32)?;
+        add(&mut spans, *tag)?;
     }
     Ok(spans)
 }
 
 // Goes on by the next tag.
 #[inline(always)]
-fn add(spans: &mut Vec<Span>, number: u32, place: u32) -> Result<(), Memory> {
-    if let Some(span) = spans.last_mut() {
-        if span.number == number {
-            span.last = place;
-            return Ok(());
-        }
+fn add(spans: &mut Vec<Span>, tag: u64) -> Result<(), Memory>
+    ensures { OnOk result ((tags : List ℕ) → AreSpans tags spans.old.items → All (λ t. t ≤ tag) tags
+        → AreSpans (tags ++ tag ∷ []) spans.new.items) }
+{
+    let number = number_in(tag);
+    let place = place_in(tag);
+    let len = spans.len();
+    if len != 0 && spans[len - 1].number == number {
+        spans[len - 1].last = place;
+        return Ok(());
     }
     spans.push(Span {
         number,
@@ -49,4 +53,20 @@ fn add(spans: &mut Vec<Span>, number: u32, place: u32) -> Result<(), Memory> {
         last: place,
     })?;
     Ok(())
+}
+
+// The number of a tag.
+#[inline(always)]
+fn number_in(tag: u64) -> u32
+    ensures { result ≡ tag / 2 ^ 32 }
+{
+    (tag >> 32) as u32
+}
+
+// The place of a tag.
+#[inline(always)]
+fn place_in(tag: u64) -> u32
+    ensures { result ≡ tag % 2 ^ 32 }
+{
+    (tag & 0xffff_ffff) as u32
 }
