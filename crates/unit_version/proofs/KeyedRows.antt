@@ -54,10 +54,10 @@ by_row-Has (r ∷ rows) x (inl here) = with_keyed-Has r (by_row rows) x (inl her
 by_row-Has (r ∷ rows) x (inr there) = with_keyed-Has r (by_row rows) x (inr (by_row-Has rows x there))
 
 -- keys are the same where the test says so
-same_key-true : (a b : KeyValue) → same_key a b ≡ true → a ≡ b
+pub same_key-true : (a b : KeyValue) → same_key a b ≡ true → a ≡ b
 same_key-true a b same = grind (arith, nat_tests)
 
-same_key-refl : (a : KeyValue) → same_key a a ≡ true
+pub same_key-refl : (a : KeyValue) → same_key a a ≡ true
 same_key-refl a = grind (arith, nat_tests)
 
 -- a key that none has is not found

@@ -1,12 +1,16 @@
 mod Contents
+mod Digests
 mod Entries
+mod KeyDigests
 mod KeyPages
+mod KeyTags
 mod KeyedRows
 mod LiveKeys
 mod PackedWords
 mod PageTuples
 mod Rising
 mod RowBits
+mod RowDigests
 mod SortedCodes
 mod Spans
 mod SplitRows

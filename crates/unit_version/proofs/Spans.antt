@@ -44,6 +44,8 @@ number-at spans k d within = get_or-map number spans k d 0 within
 IsSpan-other : (tags : List ℕ) (s : Span) (n place : ℕ) → place < 2 ^ 32 → s.number ≢ n → IsSpan tags s
     → IsSpan (tags ++ tag_of n place ∷ []) s
 IsSpan-other tags s n place low other is = record {
+  first_low = is.first_low;
+  last_low = is.last_low;
   first = Contains-append_left tags (tag_of n place ∷ []) _ is.first;
   last = Contains-append_left tags (tag_of n place ∷ []) _ is.last;
   between = λ p p_low has. elim (Contains-push_cases tags (tag_of n place) _ has) [
@@ -53,10 +55,12 @@ IsSpan-other tags s n place low other is = record {
 }
 
 -- the last of the spans goes on to another place
-IsSpan-longer : (tags : List ℕ) (s : Span) (place : ℕ) → IsSpan tags s
+IsSpan-longer : (tags : List ℕ) (s : Span) (place : ℕ) → place < 2 ^ 32 → IsSpan tags s
     → All (λ tag. tag ≤ tag_of s.number place) tags
     → IsSpan (tags ++ tag_of s.number place ∷ []) (record { number = s.number; first = s.first; last = place })
-IsSpan-longer tags s place is behind = record {
+IsSpan-longer tags s place low is behind = record {
+  first_low = is.first_low;
+  last_low = low;
   first = Contains-append_left tags (tag_of s.number place ∷ []) _ is.first;
   last = Contains-push tags (tag_of s.number place);
   between = λ p p_low has. elim (Contains-push_cases tags (tag_of s.number place) _ has) [
@@ -82,7 +86,7 @@ AreSpans-longer tags spans i s place last is low are behind =
       rising = rw same are.rising;
       each = λ k d within. elim (cases_eq k i) [
         | inl here ↦ rw (here, get_or-set_same spans i longer d (omega arith))
-            (IsSpan-longer tags s place (rw (← is) at (are.each i s (omega arith))) behind)
+            (IsSpan-longer tags s place low (rw (← is) at (are.each i s (omega arith))) behind)
         | inr other ↦ rw (get_or-set_other spans i k longer d other)
             (IsSpan-other tags (get_or spans k d) s.number place low
             (λ equal.
@@ -163,6 +167,8 @@ AreSpans-more tags spans n place low are behind differs =
         | inr end ↦
             let here : length spans ≡ k = omega (arith, length_push spans new) in
             rw (get_or_push spans new d k here) (record {
+              first_low = low;
+              last_low = low;
               first = Contains-push tags (tag_of n place);
               last = Contains-push tags (tag_of n place);
               between = λ p p_low has. elim (Contains-push_cases tags (tag_of n place) (tag_of n p) has) [
@@ -195,6 +201,8 @@ AreSpans-permutation tags sorted spans moved are =
       each = λ k d within.
           let is = are.each k d within in
           record {
+            first_low = is.first_low;
+            last_low = is.last_low;
             first = Contains-permutation sorted tags _ back is.first;
             last = Contains-permutation sorted tags _ back is.last;
             between = λ place low has. is.between place low (Contains-permutation tags sorted _ moved has);

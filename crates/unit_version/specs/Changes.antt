@@ -1,5 +1,5 @@
 -- What deltas change, row by row, bin by bin and key by key.
-use Rattle.std.specs.Prelude.{ℕ, ◌≡◌, ◌+◌, ◌%◌, ◌<◌, ◌==◌, Bool, false, All, List, length, map, filter, find, is_some, if◌then◌else◌, slice_index_or, Option, Some, None}
+use Rattle.std.specs.Prelude.{ℕ, ◌≡◌, ◌+◌, ◌%◌, ◌<◌, ◌==◌, Bool, false, All, List, length, map, filter, find, is_some, slice_get, if◌then◌else◌, slice_index_or, Option, Some, None}
 use Rattle.std.specs.List.Sorted.{IsStrictlyIncreasing}
 use Rattle.std.specs.Option.{option_map}
 use Rattle.std.specs.declared.alloc.Global.{Global}
@@ -16,6 +16,7 @@ use Rattle.unit_version.specs.Entry.{code_of}
 use Rattle.unit_version.specs.Span.{AreTags}
 use Rattle.unit_version.specs.declared.changes.row.RowChange.{RowChange}
 use Rattle.unit_version.specs.declared.changes.keyed.KeyChange.{KeyChange}
+use Rattle.unit_version.specs.declared.changes.span.Span.{Span}
 use Rattle.unit_version.specs.declared.unit.Unit.{Unit as IndexUnit}
 use Rattle.unit_version.specs.declared.unit.Unit.TheVariants as unit
 
@@ -41,6 +42,17 @@ pub record AreRowChanges (deltas : List Delta) (changes : List RowChange) : Type
       ≡ option_map (λ d. d.before) (find (is_of_row row) deltas)
   pub last : (row : ℕ) → option_map (λ c. c.after) (change_of_row row changes)
       ≡ option_map (λ d. d.after) (last_delta (is_of_row row) deltas)
+
+-- the change is what the deltas of a span come to
+pub record IsRowChange (deltas : List Delta) (span : Span) (change : RowChange) : Type 0 where
+  pub row : change.row ≡ span.number
+  pub first : (d : Delta) → slice_get deltas span.first ≡ Some d → change.before ≡ d.before
+  pub last : (d : Delta) → slice_get deltas span.last ≡ Some d → change.after ≡ d.after
+
+pub record IsKeyChange (deltas : List Delta) (span : Span) (change : KeyChange) : Type 0 where
+  pub code : change.code ≡ span.number
+  pub row : (d : Delta) → slice_get deltas span.last ≡ Some d → change.row ≡ d.row
+  pub last : (d : Delta) → slice_get deltas span.last ≡ Some d → change.after ≡ d.after
 
 -- the row and the tuple, or none, that a change or a delta leaves
 abbrev pub key_change : KeyChange → ℕ × Option TupleValue

@@ -17,6 +17,8 @@ pub record AreTags (number_of : Delta → Option ℕ) (deltas : List Delta) (tag
 
 -- the tags have the number at the span's first and last place, and at none before or behind them
 pub record IsSpan (tags : List ℕ) (span : Span) : Type 0 where
+  pub first_low : span.first < 2 ^ 32
+  pub last_low : span.last < 2 ^ 32
   pub first : Contains tags (tag_of span.number span.first)
   pub last : Contains tags (tag_of span.number span.last)
   pub between : (place : ℕ) → place < 2 ^ 32 → Contains tags (tag_of span.number place)

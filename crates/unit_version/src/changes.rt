@@ -49,6 +49,8 @@ impl Changes {
     pub fn of(alloc: Global, deltas: &DeltaList) -> Result<Changes, Memory>
         ensures { IfOk result (λ changes. changes ≡ deltas.now) }
     {
+        // Their number is read, so that it is known to have 32 bits.
+        let _count = deltas.len();
         let rows = row_changes(alloc, deltas.as_slice())?;
         let turned = turned_rows(alloc, &rows)?;
         let keys = key_changes(alloc, deltas.as_slice())?;

@@ -1,9 +1,9 @@
 //! The rows that deltas change.
 ghost use Rattle.std.specs.Prelude.{◌<◌, ◌^◌, IfOk, length};
-ghost use Rattle.unit_version.specs.Changes.{AreRowChanges, row_number};
+ghost use Rattle.unit_version.specs.Changes.{AreRowChanges, IsRowChange, row_number};
 ghost use Rattle.unit_version.specs.Span.{AreTags};
 
-use super::span::{spans_of, tag_of};
+use super::span::{Span, spans_of, tag_of};
 use crate::Memory;
 use crate::packed::Slot;
 use cubit_base::Delta;
@@ -27,13 +27,23 @@ pub(crate) fn row_changes(alloc: Global, deltas: &[Delta]) -> Result<Vec<RowChan
     let spans = spans_of(alloc, row_tags(alloc, deltas)?)?;
     let mut changes = Vec::with_capacity(alloc, spans.len())?;
     for span in &spans {
-        changes.push(RowChange {
-            row: span.number,
-            before: Slot::new(&deltas[span.first as usize].before),
-            after: Slot::new(&deltas[span.last as usize].after),
-        })?;
+        changes.push(row_change(deltas, span))?;
     }
     Ok(changes)
+}
+
+// What the deltas of a row come to.
+#[inline(always)]
+fn row_change(deltas: &[Delta], span: &Span) -> RowChange
+    requires first { span.now.first < length deltas.now }
+    requires last { span.now.last < length deltas.now }
+    ensures { IsRowChange deltas.now span.now result }
+{
+    RowChange {
+        row: span.number,
+        before: Slot::new(&deltas[span.first as usize].before),
+        after: Slot::new(&deltas[span.last as usize].after),
+    }
 }
 
 // The row of each delta, with its place.
