@@ -7,13 +7,16 @@ mod KeyTags
 mod KeyedRows
 mod LiveKeys
 mod PackedWords
+mod PageChanges
 mod PageTuples
 mod Rising
 mod RowBits
 mod RowDigests
+mod RowStates
 mod SortedCodes
 mod Spans
 mod SplitRows
 mod Tiles
 mod TurnedLists
+mod TurnedRows
 mod Written

@@ -11,14 +11,14 @@ use Rattle.unit_version.specs.Entry.{codes, is_up_to}
 use Rattle.unit_version.specs.Search.{AreTops, IsUpTo, IsNear}
 
 -- without the first number they still rise
-rising-tail : (x : ℕ) (xs : List ℕ) → IsStrictlyIncreasing (x ∷ xs) → IsStrictlyIncreasing xs
+pub rising-tail : (x : ℕ) (xs : List ℕ) → IsStrictlyIncreasing (x ∷ xs) → IsStrictlyIncreasing xs
 rising-tail x xs up k within =
     let next : suc k + 1 ≡ suc (k + 1) = omega arith in
     let above = up (suc k) (omega arith) in
     rw next at above
 
 -- the first number is below the others
-rising-first : (x : ℕ) (xs : List ℕ) → IsStrictlyIncreasing (x ∷ xs) → (j : ℕ) → j < length xs → x < slice_index xs j
+pub rising-first : (x : ℕ) (xs : List ℕ) → IsStrictlyIncreasing (x ∷ xs) → (j : ℕ) → j < length xs → x < slice_index xs j
 rising-first x [] up j within = absurd (omega arith)
 rising-first x (y ∷ xs) up zero within = up 0 (omega arith)
 rising-first x (y ∷ xs) up (suc j) within =

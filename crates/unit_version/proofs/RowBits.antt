@@ -42,7 +42,7 @@ bin-past column (row ∷ table) zero is = absurd (search rules)
 bin-past column (row ∷ table) (suc n) is = bin-past column table n is
 
 -- the rows whose bin is this one
-same-bin : (a b : ℕ) → (a == b) ≡ (nat_le b a && nat_lt a (b + 1))
+pub same-bin : (a b : ℕ) → (a == b) ≡ (nat_le b a && nat_lt a (b + 1))
 same-bin a b = grind (arith, nat_tests)
 
 pub rows_of-bin : (column : Column) (bin : ℕ) (table : List Row) → bin < 255

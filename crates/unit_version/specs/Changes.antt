@@ -1,5 +1,5 @@
 -- What deltas change, row by row, bin by bin and key by key.
-use Rattle.std.specs.Prelude.{ℕ, ◌≡◌, ◌+◌, ◌%◌, ◌<◌, ◌==◌, Bool, false, All, List, length, map, filter, find, is_some, slice_get, if◌then◌else◌, slice_index_or, Option, Some, None}
+use Rattle.std.specs.Prelude.{ℕ, ◌≡◌, ◌+◌, ◌%◌, ◌<◌, ◌≤◌, ◌==◌, Bool, false, All, List, length, map, filter, find, is_some, slice_get, if◌then◌else◌, slice_index_or, Option, Some, None}
 use Rattle.std.specs.List.Sorted.{IsStrictlyIncreasing}
 use Rattle.std.specs.Option.{option_map}
 use Rattle.std.specs.declared.alloc.Global.{Global}
@@ -26,6 +26,23 @@ change_of_row row changes = find (λ c. c.row == row) changes
 
 abbrev pub change_of_code : ℕ → List KeyChange → Option KeyChange
 change_of_code code changes = find (λ c. c.code == code) changes
+
+-- a place behind the changes of rows before one, and not behind others
+pub record IsPlaceOf (row : ℕ) (changes : List RowChange) (place : ℕ) : Type 0 where
+  pub within : place ≤ length changes
+  pub before : (k : ℕ) (c : RowChange) → k < place → (slice_index_or changes k c).row < row
+  pub behind : (k : ℕ) (c : RowChange) → place ≤ k → k < length changes → row ≤ (slice_index_or changes k c).row
+
+-- what a row holds that held this before, by its change
+abbrev pub held_then : Option TupleValue → Option RowChange → Option TupleValue
+held_then held None = held
+held_then held (Some c) = c.after
+
+-- the tuples of rows from one on, so many, after changes of rows
+pub record AreHeldThen (first count : ℕ) (changes : List RowChange) (old new : List (Option TupleValue)) : Type 0 where
+  pub long : length new ≡ length old
+  pub each : (at : ℕ) → at < count
+      → slice_index_or new at None ≡ held_then (slice_index_or old at None) (change_of_row (first + at) changes)
 
 -- by which numbers deltas are of one row, or of one key of a page
 abbrev pub row_number : Delta → Option ℕ

@@ -1,12 +1,18 @@
 //! Pages of tuples.
-ghost use Rattle.std.specs.Prelude.{◌≡◌, ◌+◌, ◌*◌, ◌<◌, ◌≤◌, slice_get, Some, IfOk};
+ghost use Rattle.std.specs.Prelude.{◌≡◌, ◌+◌, ◌*◌, ◌<◌, ◌≤◌, List, length, map, slice_get, Some, IfOk};
+ghost use Rattle.std.specs.List.Sorted.{IsStrictlyIncreasing};
+ghost use Rattle.cubit_base.specs.Table.{Row};
+ghost use Rattle.cubit_base.specs.History.{after, IsHistory};
+ghost use Rattle.cubit_base.specs.declared.delta.Delta.{Delta};
 ghost use Rattle.cubit_base.specs.LiveRow.{tuple_at};
 ghost use Rattle.cubit_base.specs.declared.table.TheConstants.{ROW_LIMIT};
+ghost use Rattle.unit_version.specs.Changes.{AreHeldThen, AreRowChanges};
 ghost use Rattle.unit_version.specs.Content.{tuples_from};
 
 use crate::Memory;
 use crate::changes::{RowChange, first_from};
 use crate::packed::Slot;
+use cubit_base::laws::rows;
 use cubit_base::{Steps, Table, Tuple};
 use fence_window::PAGE_ROWS;
 use std::alloc::Global;
@@ -50,17 +56,15 @@ impl Page {
         changes: &[RowChange],
     ) -> Result<Page, Memory>
         requires page { 3_968 * page ≤ ROW_LIMIT }
+        requires rising { IsStrictlyIncreasing (map (λ c. c.row) changes.now) }
+        ensures { IfOk result (λ p. (table : List Row) (deltas : List Delta) → IsHistory ROW_LIMIT table deltas
+            → AreRowChanges deltas changes.now → self.now ≡ tuples_from table (3_968 * page) 3_968
+            → p ≡ tuples_from (after table deltas) (3_968 * page) 3_968) }
     {
+        rows();
         let mut slots = Vec::with_capacity(alloc, PAGE_ROWS as usize)?;
         slots.extend_from_slice(&self.slots)?;
-        let first = PAGE_ROWS * page;
-        let from = first_from(changes, first);
-        for change in &changes[from..] {
-            if change.row - first >= PAGE_ROWS {
-                break;
-            }
-            slots[(change.row - first) as usize] = change.after;
-        }
+        write_changes(&mut slots, PAGE_ROWS * page, changes);
         Ok(Page { slots })
     }
 
@@ -75,6 +79,21 @@ impl Page {
             slots.push(slot_of(table, first + at))?;
         }
         Ok(Page { slots })
+    }
+}
+
+// Writes what the rows from one on hold after the changes of them.
+fn write_changes(slots: &mut Vec<Slot>, first: u32, changes: &[RowChange])
+    requires long { length slots.old.items ≡ 3_968 }
+    requires first { first ≤ ROW_LIMIT }
+    requires rising { IsStrictlyIncreasing (map (λ c. c.row) changes.now) }
+    ensures { AreHeldThen first 3_968 changes.now slots.old.items slots.new.items }
+{
+    let from = first_from(changes, first);
+    let to = first_from(changes, first + PAGE_ROWS);
+    for k in from..to {
+        let change = &changes[k];
+        slots[(change.row - first) as usize] = change.after;
     }
 }
 

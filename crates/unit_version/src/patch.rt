@@ -1,13 +1,17 @@
 //! A unit carried from one prefix of a history to a longer one.
-ghost use Rattle.std.specs.Prelude.{◌<◌, ◌≤◌, All, IfOk, length};
+ghost use Rattle.std.specs.Prelude.{◌≡◌, ◌<◌, ◌≤◌, Bool, List, All, IfOk, length};
 ghost use Rattle.std.specs.List.Sorted.{IsStrictlyIncreasing};
+ghost use Rattle.wah_words.specs.Rows.{IsToggled};
 ghost use Rattle.unit_version.specs.Patch.{IsSomeUnit, CanPatch, IsPatched};
+ghost use Rattle.unit_version.specs.declared.content.Content.TheVariants.{Bits};
 
 use crate::changes::first_place;
 use crate::{Changes, Content, Memory, Unit};
 use cubit_base::DeltaList;
+use cubit_base::laws::rows;
 use fence_window::Fenced;
 use std::alloc::Global;
+use wah_words::laws::toggles;
 
 /// What the unit holds after the deltas, given what it holds before them, the number of rows before them, and that
 /// after them. Without memory all that was lent is as it was.
@@ -64,6 +68,7 @@ pub fn patched_by(
       rows_then = rows_after;
     })) }
 {
+    rows();
     match (unit, content) {
         (Unit::Live, Content::Bits(bits)) => {
             bits_patched(alloc, bits, &changes.turned[0], rows_after)
@@ -94,6 +99,9 @@ fn bits_patched(
     requires rising { IsStrictlyIncreasing turned.now }
     requires below { All (λ row. row < rows_after) turned.now }
     requires longer { length bits.now ≤ rows_after }
+    ensures { IfOk result (λ content. (list : List Bool) → length list ≡ rows_after
+        → IsToggled bits.now turned.now list → content ≡ Bits list) }
 {
+    toggles();
     Ok(Content::Bits(bits.toggled(alloc, turned, rows_after)?))
 }

@@ -1,6 +1,7 @@
 //! The rows that deltas change.
-ghost use Rattle.std.specs.Prelude.{◌<◌, ◌^◌, IfOk, length};
-ghost use Rattle.unit_version.specs.Changes.{AreRowChanges, IsRowChange, row_number};
+ghost use Rattle.std.specs.Prelude.{◌<◌, ◌^◌, IfOk, length, map};
+ghost use Rattle.std.specs.List.Sorted.{IsStrictlyIncreasing};
+ghost use Rattle.unit_version.specs.Changes.{AreRowChanges, IsPlaceOf, IsRowChange, row_number};
 ghost use Rattle.unit_version.specs.Span.{AreTags};
 
 use super::span::{Span, spans_of, tag_of};
@@ -59,7 +60,10 @@ fn row_tags(alloc: Global, deltas: &[Delta]) -> Result<Vec<u64>, Memory>
 }
 
 /// How many of the changes are of rows before this one.
-pub(crate) fn first_from(changes: &[RowChange], row: u32) -> usize {
+pub(crate) fn first_from(changes: &[RowChange], row: u32) -> usize
+    requires { IsStrictlyIncreasing (map (λ c. c.row) changes.now) }
+    ensures { IsPlaceOf row changes.now result }
+{
     let mut from = 0;
     let mut to = changes.len();
     while from < to {
