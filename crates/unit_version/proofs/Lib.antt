@@ -1,11 +1,14 @@
 mod Contents
 mod Digests
 mod Entries
+mod Finds
+mod Gaps
 mod KeyDigests
 mod KeyPages
 mod KeyTags
 mod KeyedRows
 mod LiveKeys
+mod Merging
 mod PackedWords
 mod PageChanges
 mod PageTuples

@@ -16,55 +16,13 @@ use Rattle.cubit_base.specs.declared.delta.Delta.{Delta}
 use Rattle.unit_version.specs.Changes.{AreHeldThen, AreRowChanges, IsPlaceOf, change_of_row, held_then}
 use Rattle.unit_version.specs.Content.{tuples_from}
 use Rattle.unit_version.specs.declared.changes.row.RowChange.{RowChange}
+use Rattle.unit_version.proofs.Finds.{numbers-far, find-absent, find-more, or-none}
 use Rattle.unit_version.proofs.PageTuples.{length-tuples_from, slice_get-tuples_from}
 use Rattle.unit_version.proofs.Rising.{rising-far}
 use Rattle.unit_version.proofs.RowStates.{RowLaws, row-state}
 
--- later changes are of higher rows
-pub rows-far : (changes : List RowChange) (i j : ℕ) (c e : RowChange) → IsStrictlyIncreasing (map (λ c. c.row) changes)
-    → i < j → j < length changes → (get_or changes i c).row < (get_or changes j e).row
-rows-far changes i j c e up order within =
-    let row = λ (c : RowChange). c.row in
-    let far = rising-far (map row changes) up i j order (omega (arith, length-map changes row)) in
-    let at_i = get_or-map row changes i c 0 (omega arith) in
-    let at_j = get_or-map row changes j e 0 within in
-    omega arith
-
--- a row that no change is of
-change-none : (n : ℕ) (changes : List RowChange) → All (λ c. c.row ≢ n) changes → change_of_row n changes ≡ None
-change-none n [] other = refl
-change-none n (c ∷ changes) other =
-    let first = other 0 c (omega arith) in
-    let away : (c.row == n) ≡ false = grind (arith, nat_tests) in
-    rw away (change-none n changes (λ k d low. other (suc k) d (omega arith)))
-
--- one change more, of a row that none before is of
-change-more : (n : ℕ) (changes : List RowChange) (k : ℕ) (c : RowChange)
-    → IsStrictlyIncreasing (map (λ c. c.row) changes) → k < length changes → c ≡ get_or changes k c
-    → change_of_row n (take (k + 1) changes) ≡ cond (c.row == n) (Some c) (change_of_row n (take k changes))
-change-more n changes k c up within is =
-    let short = length-take-le k changes (omega arith) in
-    let parts : change_of_row n (take (k + 1) changes)
-    ≡ option_or (change_of_row n (take k changes)) (cond (c.row == n) (Some c) None) =
-    rw (take_more changes k c within, ← is) (find-append (λ (c : RowChange). c.row == n) (take k changes) (c ∷ [])) in
-    elim (cases_eq c.row n) [
-      | inl here ↦
-          let passes : (c.row == n) ≡ true = grind (arith, nat_tests) in
-          let none : change_of_row n (take k changes) ≡ None = change-none n (take k changes) (λ j d low same.
-          (let far = rows-far changes j k d c up (omega arith) within in
-          let at = get_or-take k changes j d (omega arith) in
-          let row : (get_or (take k changes) j d).row ≡ (get_or changes j d).row = ap (λ (c : RowChange). c.row) at in
-          let own : (get_or changes k c).row ≡ c.row = ap (λ (c : RowChange). c.row) (sym is) in
-          omega arith)) in
-          parts ∙ rw (none, passes) refl
-      | inr away ↦
-          let fails : (c.row == n) ≡ false = grind (arith, nat_tests) in
-          parts ∙ rw fails (or-none (change_of_row n (take k changes)))
-    ]
-  where
-    or-none : (o : Option RowChange) → option_or o None ≡ o
-    or-none None = refl
-    or-none (Some c) = refl
+abbrev row_of : RowChange → ℕ
+row_of c = c.row
 
 -- none of the changes before the first row
 pub AreHeldThen-none : (first : ℕ) (changes : List RowChange) (place : ℕ) (held : List (Option TupleValue))
@@ -74,10 +32,10 @@ AreHeldThen-none first changes place held is = record {
   each = λ at low.
       let short = length-take-le place changes is.within in
       let none : change_of_row (first + at) (take place changes) ≡ None =
-      change-none (first + at) (take place changes) (λ k d inside same.
+      find-absent row_of (first + at) (take place changes) (λ k d inside same.
       (let before = is.before k d (omega arith) in
       let there = get_or-take place changes k d (omega arith) in
-      let row : (get_or (take place changes) k d).row ≡ (get_or changes k d).row = ap (λ (c : RowChange). c.row) there in
+      let there_row : (get_or (take place changes) k d).row ≡ (get_or changes k d).row = ap (λ (c : RowChange). c.row) there in
       omega arith)) in
       rw none refl;
 }
@@ -90,7 +48,7 @@ pub AreHeldThen-more : (first : ℕ) (changes : List RowChange) (k : ℕ) (c : R
     → AreHeldThen first 3968 (take (k + 1) changes) old (set new (c.row - first) c.after)
 AreHeldThen-more first changes k c old new up within is low high are = record {
   long = length-set new (c.row - first) c.after ∙ are.long;
-  each = λ at inside. rw (change-more (first + at) changes k c up within is) (elim (cases_eq c.row (first + at)) [
+  each = λ at inside. rw (find-more row_of (first + at) changes k c up within is) (elim (cases_eq c.row (first + at)) [
     | inl here ↦
         let passes : (c.row == first + at) ≡ true = grind (arith, nat_tests) in
         let place : c.row - first ≡ at = omega arith in
@@ -111,10 +69,10 @@ AreHeldThen-all first changes place old new is are = record {
   each = λ at low.
       let n = first + at in
       let none : change_of_row n (drop place changes) ≡ None =
-      change-none n (drop place changes) (λ k d inside same.
+      find-absent row_of n (drop place changes) (λ k d inside same.
       (let behind = is.behind (place + k) d (omega arith) (omega (arith, length-drop place changes)) in
       let there = get_or-drop place changes k d in
-      let row : (get_or (drop place changes) k d).row ≡ (get_or changes (place + k) d).row =
+      let there_row : (get_or (drop place changes) k d).row ≡ (get_or changes (place + k) d).row =
       ap (λ (c : RowChange). c.row) there in
       omega arith)) in
       let whole : change_of_row n changes ≡ change_of_row n (take place changes) =
@@ -124,10 +82,6 @@ AreHeldThen-all first changes place old new is are = record {
       ∙ or-none (change_of_row n (take place changes)) in
       rw whole (are.each at low);
 }
-  where
-    or-none : (o : Option RowChange) → option_or o None ≡ o
-    or-none None = refl
-    or-none (Some c) = refl
 
 -- the tuples of rows after deltas are those before them after the changes
 pub tuples_from-after : RowLaws → (limit : ℕ) (table : List Row) (h : List Delta) (changes : List RowChange)
@@ -162,7 +116,7 @@ pub lower-before : (changes : List RowChange) (middle row : ℕ) (e : RowChange)
     → IsStrictlyIncreasing (map (λ c. c.row) changes) → middle < length changes → (get_or changes middle e).row < row
     → (k : ℕ) (c : RowChange) → k < middle + 1 → (get_or changes k c).row < row
 lower-before changes middle row e up within lower k c low = elim (cases_lt k middle) [
-  | inl before ↦ (let far = rows-far changes k middle c e up before within in omega arith)
+  | inl before ↦ (let far = numbers-far row_of changes k middle c e up before within in omega arith)
   | inr here ↦
       let at : k ≡ middle = omega arith in
       rw (at, get_or_default changes middle c e within) lower
@@ -172,7 +126,7 @@ pub higher-behind : (changes : List RowChange) (middle row : ℕ) (e : RowChange
     → IsStrictlyIncreasing (map (λ c. c.row) changes) → row ≤ (get_or changes middle e).row
     → (k : ℕ) (c : RowChange) → middle ≤ k → k < length changes → row ≤ (get_or changes k c).row
 higher-behind changes middle row e up higher k c from within = elim (cases_lt middle k) [
-  | inl behind ↦ (let far = rows-far changes middle k e c up behind within in omega arith)
+  | inl behind ↦ (let far = numbers-far row_of changes middle k e c up behind within in omega arith)
   | inr here ↦
       let at : k ≡ middle = omega arith in
       let inside : middle < length changes = omega arith in

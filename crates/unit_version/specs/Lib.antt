@@ -5,6 +5,7 @@ pub mod Content
 pub mod Entry
 pub mod Inverse
 pub mod KeyedRow
+pub mod Merged
 pub mod Packed
 pub mod Patch
 pub mod RowBins
