@@ -101,6 +101,22 @@ last-last test found (e ∷ h) zero d at passes behind =
 last-last test found (e ∷ h) (suc i) d at passes behind =
     last-last test _ h i d at passes (λ k f high at_f. behind (suc k) f (omega arith) at_f)
 
+-- the last delta that passes stands at a place
+pub last-placed : (test : Delta → Bool) (found : Option Delta) (h : List Delta) (d : Delta)
+    → last_or found test h ≡ Some d
+    → (found ≡ Some d) ⊎ ((k : ℕ) × (slice_get h k ≡ Some d) × (test d ≡ true))
+last-placed test found [] d is = inl is
+last-placed test found (e ∷ h) d is = elim (cases_Bool (test e)) [
+  | inl passes ↦ elim (last-placed test (Some e) h d (rw passes at is)) [
+    | inl here ↦ (let same = same_Some e d here in inr (0, here, rw (← same) passes))
+    | inr there ↦ inr (suc there.0, there.1, there.2)
+  ]
+  | inr fails ↦ elim (last-placed test found h d (rw fails at is)) [
+    | inl before ↦ inl before
+    | inr there ↦ inr (suc there.0, there.1, there.2)
+  ]
+]
+
 -- where an element with a number stands among others, and that in a list with the same numbers
 pub record IsFound {X Y : Type 0} (f : X → ℕ) (g : Y → ℕ) (n : ℕ) (xs : List X) (ys : List Y) : Type 0 where
   pub place : ℕ

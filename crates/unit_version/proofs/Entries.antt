@@ -12,15 +12,15 @@ use Rattle.unit_version.proofs.KeyedRows.{Has, Has-by_row, by_row-Has, row_of_ke
 use Rattle.unit_version.proofs.Rising.{rising-far}
 
 -- a live row is that of the entry at a place
-record IsAt (rest : ℕ) (entries : List Entry) (x : KeyedRow) : Type 0 where
-  place : ℕ
-  entry : Entry
-  within : place < length entries
-  at : (d : Entry) → get_or entries place d ≡ entry
-  is : keyed rest entry ≡ x
+pub record IsAt (rest : ℕ) (entries : List Entry) (x : KeyedRow) : Type 0 where
+  pub place : ℕ
+  pub entry : Entry
+  pub within : place < length entries
+  pub at : (d : Entry) → get_or entries place d ≡ entry
+  pub is : keyed rest entry ≡ x
 
 -- each live row of the entries has a place
-IsAt-Has : (rest : ℕ) (entries : List Entry) (x : KeyedRow) → Has (map (keyed rest) entries) x → IsAt rest entries x
+pub IsAt-Has : (rest : ℕ) (entries : List Entry) (x : KeyedRow) → Has (map (keyed rest) entries) x → IsAt rest entries x
 IsAt-Has rest [] x has = absurd has
 IsAt-Has rest (e ∷ entries) x (inl here) =
     record { place = 0; entry = e; within = omega arith; at = λ d. refl; is = here }
@@ -35,19 +35,19 @@ IsAt-Has rest (e ∷ entries) x (inr there) =
     }
 
 -- in the order of rows too
-IsAt-by_row : (rest : ℕ) (entries : List Entry) (x : KeyedRow) → Has (by_row (map (keyed rest) entries)) x
+pub IsAt-by_row : (rest : ℕ) (entries : List Entry) (x : KeyedRow) → Has (by_row (map (keyed rest) entries)) x
     → IsAt rest entries x
 IsAt-by_row rest entries x has = IsAt-Has rest entries x (Has-by_row (map (keyed rest) entries) x has)
 
 -- and each entry's live row is one of them
-Has-keyed : (rest : ℕ) (entries : List Entry) (i : ℕ) (d : Entry) → i < length entries
+pub Has-keyed : (rest : ℕ) (entries : List Entry) (i : ℕ) (d : Entry) → i < length entries
     → Has (map (keyed rest) entries) (keyed rest (get_or entries i d))
 Has-keyed rest [] i d within = absurd (omega arith)
 Has-keyed rest (e ∷ entries) zero d within = inl refl
 Has-keyed rest (e ∷ entries) (suc i) d within = inr (Has-keyed rest entries i d (omega arith))
 
 -- a code tells its key within a page, and a key its code
-code_of-key : (rest code : ℕ) → rest < 64 → code_of (key_of_code rest code) ≡ code
+pub code_of-key : (rest code : ℕ) → rest < 64 → code_of (key_of_code rest code) ≡ code
 code_of-key rest code low = omega arith
 
 pub key_of-code : (key : KeyValue) → key.line < 8 → key_of_code (key.order % 64) (code_of key) ≡ key
@@ -59,7 +59,7 @@ key_of-code key low =
     built (λ o l. record { order = o; line = l })
 
 -- the order of a key of a page leaves its rest
-rest_of-key : (rest code : ℕ) → rest < 64 → (key_of_code rest code).order % 64 ≡ rest
+pub rest_of-key : (rest code : ℕ) → rest < 64 → (key_of_code rest code).order % 64 ≡ rest
 rest_of-key rest code low = omega arith
 
 -- a key of another page is not found

@@ -7,7 +7,8 @@ use Rattle.std.proofs.lemmas.Bool.{cases_eq}
 use Rattle.std.proofs.lemmas.Bool.Decides.{nat_tests}
 use Rattle.std.proofs.lemmas.List.{get_or-take, get_or-map, length-map, length-take-le, take_more}
 use Rattle.std.proofs.lemmas.List.Folds.{find-append}
-use Rattle.unit_version.proofs.Rising.{rising-far}
+use Rattle.std.proofs.lemmas.Option.{same_Some}
+use Rattle.unit_version.proofs.Rising.{rising-far, rising-tail}
 
 pub or-none : {X : Type 0} (o : Option X) → option_or o None ≡ o
 or-none None = refl
@@ -53,3 +54,42 @@ find-more {X} f n xs k x up within is =
           let fails : (f x == n) ≡ false = grind (arith, nat_tests) in
           parts ∙ rw fails (or-none (find test (take k xs)))
     ]
+
+-- the element at a place is found by its number, and what is found stands at a place
+pub find-at : {X : Type 0} (f : X → ℕ) (xs : List X) (k : ℕ) (x : X) → IsStrictlyIncreasing (map f xs) → k < length xs
+    → ((d : X) → get_or xs k d ≡ x) → find (λ y. f y == f x) xs ≡ Some x
+find-at f [] k x up within at = absurd (omega arith)
+find-at f (y ∷ xs) zero x up within at =
+    let passes : (f y == f x) ≡ true = grind (arith, nat_tests, ap f (at x)) in
+    rw passes (ap Some (at x))
+find-at f (y ∷ xs) (suc k) x up within at =
+    let all : List _ = y ∷ xs in
+    let far = numbers-far f all 0 (suc k) x x up (omega arith) within in
+    let here = ap f (at x) in
+    let fails : (f y == f x) ≡ false = grind (arith, nat_tests, far, here) in
+    rw fails (find-at f xs k x (rising-tail (f y) (map f xs) up) (omega arith) at)
+
+pub record IsPlaced {X : Type 0} (f : X → ℕ) (n : ℕ) (xs : List X) (x : X) : Type 0 where
+  pub place : ℕ
+  pub within : place < length xs
+  pub at : (d : X) → get_or xs place d ≡ x
+  pub number : f x ≡ n
+
+pub find-placed : {X : Type 0} (f : X → ℕ) (n : ℕ) (xs : List X) (x : X) → find (λ y. f y == n) xs ≡ Some x
+    → IsPlaced f n xs x
+find-placed f n [] x found = absurd cc
+find-placed f n (y ∷ xs) x found = elim (cases_eq (f y) n) [
+  | inl here ↦
+      let passes : (f y == n) ≡ true = grind (arith, nat_tests) in
+      let is : y ≡ x = same_Some y x (rw passes at found) in
+      record { place = 0; within = omega arith; at = λ d. is; number = ap f (sym is) ∙ here }
+  | inr away ↦
+      let fails : (f y == n) ≡ false = grind (arith, nat_tests) in
+      let rest = find-placed f n xs x (rw fails at found) in
+      record {
+        place = suc rest.place;
+        within = omega (arith, rest.within);
+        at = rest.at;
+        number = rest.number;
+      }
+]

@@ -10,15 +10,15 @@ use Rattle.unit_version.proofs.KeyedRows.{Has, Rises}
 use Rattle.unit_version.proofs.SortedCodes.{Has-get_or}
 
 -- a live row of a page is one of the table
-record IsLive (table : List Row) (n : ℕ) (x : KeyedRow) : Type 0 where
-  place : ℕ
-  row : x.row ≡ n + place
-  is : slice_get table place ≡ Some (x.key, Some x.tuple)
+pub record IsLive (table : List Row) (n : ℕ) (x : KeyedRow) : Type 0 where
+  pub place : ℕ
+  pub row : x.row ≡ n + place
+  pub is : slice_get table place ≡ Some (x.key, Some x.tuple)
 
 one-further : (r : Row) (table : List Row) (n : ℕ) (x : KeyedRow) → IsLive table (n + 1) x → IsLive (r ∷ table) n x
 one-further r table n x live = record { place = suc live.place; row = omega (arith, live.row); is = live.is }
 
-IsLive-Has : (rest n : ℕ) (table : List Row) (x : KeyedRow) → Has (keyed_from rest n table) x → IsLive table n x
+pub IsLive-Has : (rest n : ℕ) (table : List Row) (x : KeyedRow) → Has (keyed_from rest n table) x → IsLive table n x
 IsLive-Has rest n [] x has = absurd has
 IsLive-Has rest n ((key, None) ∷ table) x has =
     one-further (key, None) table n x (IsLive-Has rest (n + 1) table x has)

@@ -55,7 +55,7 @@ Has-permuted : (xs ys : List KeyedRow) (x : KeyedRow) → IsPermutation xs ys �
 Has-permuted xs ys x moved has = Has-Contains ys x (Contains-permutation xs ys x moved (Contains-Has xs x has))
 
 -- rows that differ, one after another
-HasDistinctRows-pairs : (rows : List KeyedRow) → AllPairs (λ a b. a.row ≢ b.row) rows → HasDistinctRows rows
+pub HasDistinctRows-pairs : (rows : List KeyedRow) → AllPairs (λ a b. a.row ≢ b.row) rows → HasDistinctRows rows
 HasDistinctRows-pairs [] apart = tt
 HasDistinctRows-pairs (r ∷ rows) apart = (
   λ x has same. (let at = Contains-Has rows x has in

@@ -38,7 +38,7 @@ above-first : (x : ℕ) (xs : List ℕ) → IsStrictlyIncreasing (x ∷ xs) → 
 above-first x xs up k d low = subst (λ y. x < y) (get_or_default xs k 0 d low) (rising-first x xs up k low)
 
 -- what holds of the rows of all changes
-turned-All : (P : ℕ → Type 0) (u : IndexUnit) (changes : List RowChange) → All (λ c. P c.row) changes
+pub turned-All : (P : ℕ → Type 0) (u : IndexUnit) (changes : List RowChange) → All (λ c. P c.row) changes
     → All P (turned_rows u changes)
 turned-All P u changes all =
     All-map P (λ (c : RowChange). c.row) (filter (turns u) changes)

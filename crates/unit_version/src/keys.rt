@@ -1,7 +1,12 @@
 //! Key pages: the live rows of some keys, kept in the order of keys so that one is found fast.
-ghost use Rattle.std.specs.Prelude.{◌≡◌, ◌<◌, map, IfOk};
+ghost use Rattle.std.specs.Prelude.{◌≡◌, ◌<◌, All, List, map, IfOk};
+ghost use Rattle.std.specs.List.Sorted.{IsStrictlyIncreasing};
+ghost use Rattle.cubit_base.specs.Table.{Row};
+ghost use Rattle.cubit_base.specs.History.{after, IsHistory};
+ghost use Rattle.cubit_base.specs.declared.delta.Delta.{Delta};
 ghost use Rattle.cubit_base.specs.LiveRow.{HasDistinctLiveKeys};
-ghost use Rattle.unit_version.specs.KeyedRow.{row_of_key, by_row, AreApart};
+ghost use Rattle.unit_version.specs.Changes.{AreKeyChanges};
+ghost use Rattle.unit_version.specs.KeyedRow.{row_of_key, by_row, keyed_from, AreApart};
 ghost use Rattle.unit_version.specs.Content.{AreContents};
 ghost use Rattle.unit_version.specs.Entry.{keyed};
 ghost use Rattle.unit_version.specs.declared.unit.Unit.TheVariants as unit;
@@ -14,6 +19,7 @@ mod split;
 
 use crate::changes::KeyChange;
 use crate::{Content, Memory};
+use cubit_base::laws::deltas;
 use cubit_base::{Key, Table, Tuple};
 use entry::Entry;
 pub(crate) use entry::{code_of, rest_of};
@@ -71,7 +77,12 @@ impl Keys {
         changes: &[KeyChange],
     ) -> Result<Keys, Memory>
         requires low { rest < 64 }
+        requires rising { IsStrictlyIncreasing (map (λ c. c.code) changes.now) }
+        ensures { IfOk result (λ keys. (table : List Row) (deltas : List Delta) → IsHistory 16_777_216 table deltas
+            → AreKeyChanges rest deltas changes.now → All (λ d. d.key.line < 8) deltas
+            → self.now ≡ keyed_from rest 0 table → keys ≡ keyed_from rest 0 (after table deltas)) }
     {
+        deltas();
         let entries = merged(alloc, &self.entries, &self.tops, changes)?;
         let tops = tops_of(alloc, &entries)?;
         Ok(Keys {

@@ -1,15 +1,11 @@
 //! A unit carried from one prefix of a history to a longer one.
-ghost use Rattle.std.specs.Prelude.{◌≡◌, ◌<◌, ◌≤◌, Bool, List, All, IfOk, length};
-ghost use Rattle.std.specs.List.Sorted.{IsStrictlyIncreasing};
-ghost use Rattle.wah_words.specs.Rows.{IsToggled};
+ghost use Rattle.std.specs.Prelude.{IfOk};
 ghost use Rattle.unit_version.specs.Patch.{IsSomeUnit, CanPatch, IsPatched};
-ghost use Rattle.unit_version.specs.declared.content.Content.TheVariants.{Bits};
 
-use crate::changes::first_place;
+use crate::changes::{LIVE_PLACE, first_place};
 use crate::{Changes, Content, Memory, Unit};
 use cubit_base::DeltaList;
 use cubit_base::laws::rows;
-use fence_window::Fenced;
 use std::alloc::Global;
 use wah_words::laws::toggles;
 
@@ -69,39 +65,24 @@ pub fn patched_by(
     })) }
 {
     rows();
+    toggles();
     match (unit, content) {
         (Unit::Live, Content::Bits(bits)) => {
-            bits_patched(alloc, bits, &changes.turned[0], rows_after)
+            let turned = &changes.turned[LIVE_PLACE];
+            Ok(Content::Bits(bits.toggled(alloc, turned, rows_after)?))
         }
         (Unit::Bin(column, bin), Content::Bits(bits)) => {
-            let place = first_place(column) + usize::from(bin);
-            bits_patched(alloc, bits, &changes.turned[place], rows_after)
+            let turned = &changes.turned[first_place(column) + usize::from(bin)];
+            Ok(Content::Bits(bits.toggled(alloc, turned, rows_after)?))
         }
         (Unit::Page(page), Content::Page(tuples)) => {
-            Ok(Content::Page(tuples.patched(alloc, page, &changes.rows)?))
+            let tuples = tuples.patched(alloc, page, &changes.rows)?;
+            Ok(Content::Page(tuples))
         }
-        (Unit::Keys(rest), Content::Keys(keys)) => Ok(Content::Keys(keys.patched(
-            alloc,
-            rest,
-            &changes.keys[usize::from(rest)],
-        )?)),
+        (Unit::Keys(rest), Content::Keys(keys)) => {
+            let changed = &changes.keys[usize::from(rest)];
+            Ok(Content::Keys(keys.patched(alloc, rest, changed)?))
+        }
         _ => unreachable!(),
     }
-}
-
-// A list of truth values with some rows turned.
-fn bits_patched(
-    alloc: Global,
-    bits: &Fenced,
-    turned: &[u32],
-    rows_after: u32,
-) -> Result<Content, Memory>
-    requires rising { IsStrictlyIncreasing turned.now }
-    requires below { All (λ row. row < rows_after) turned.now }
-    requires longer { length bits.now ≤ rows_after }
-    ensures { IfOk result (λ content. (list : List Bool) → length list ≡ rows_after
-        → IsToggled bits.now turned.now list → content ≡ Bits list) }
-{
-    toggles();
-    Ok(Content::Bits(bits.toggled(alloc, turned, rows_after)?))
 }

@@ -19,6 +19,11 @@ const LISTS: usize = 152;
 
 const _: () = prove!(LISTS == 152);
 
+/// The place of the list of the live rows.
+pub(crate) const LIVE_PLACE: usize = 0;
+
+const _: () = prove!(LIVE_PLACE == 0);
+
 // The place of the list of what stands in no bin.
 const NO_PLACE: usize = 151;
 
@@ -120,7 +125,7 @@ fn live_place(tuple: &Option<Tuple>) -> usize
     ensures { IsPlace 0 1 tuple.now result }
 {
     match tuple {
-        Some(_) => 0,
+        Some(_) => LIVE_PLACE,
         None => NO_PLACE,
     }
 }
