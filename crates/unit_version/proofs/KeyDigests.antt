@@ -1,14 +1,14 @@
 -- The row and the tuple that the last delta of each key leaves.
-use Rattle.std.proofs.Common.{◌≡◌, ℕ, ◌+◌, ◌*◌, ◌/◌, ◌%◌, ◌^◌, ◌<◌, ◌==◌, true, List, [], ◌∷◌, ◌++◌, length, map, get_or, Option, Some, None, refl, sym, ap, ◌∙◌, inl, inr, arith}
-use Rattle.std.specs.List.{find, slice_get, All}
+use Rattle.std.proofs.Common.{◌≡◌, ℕ, ◌+◌, ◌%◌, ◌^◌, ◌<◌, List, [], ◌∷◌, ◌++◌, length, get_or, Option, Some, None, refl, sym, ap, ◌∙◌, inl, inr, arith}
+use Rattle.std.specs.List.{All}
 use Rattle.std.specs.Option.{option_map}
-use Rattle.std.proofs.lemmas.Bool.{cases_eq, cases_Bool}
+use Rattle.std.proofs.lemmas.Bool.{cases_eq}
 use Rattle.std.proofs.lemmas.Bool.Decides.{nat_tests}
-use Rattle.std.proofs.lemmas.List.{length-map, get_or-map, get_or_append_left, get_or_push, length_push}
+use Rattle.std.proofs.lemmas.List.{length-map, get_or-map, get_or_append_left, get_or_push}
 use Rattle.std.proofs.lemmas.Option.{same_Some, slice_get_within, get_or_from_slice_get}
 use Rattle.cubit_base.specs.Key.{KeyValue, same_key}
 use Rattle.cubit_base.specs.Tuple.{TupleValue}
-use Rattle.cubit_base.specs.History.{is_of_key, last_delta}
+use Rattle.cubit_base.specs.History.{is_of_key}
 use Rattle.cubit_base.specs.declared.delta.Delta.{Delta}
 use Rattle.unit_version.specs.Entry.{code_of, key_of_code}
 use Rattle.unit_version.specs.Changes.{AreKeyChanges, IsKeyChange, key_number, key_change, key_delta}

@@ -1,12 +1,11 @@
 -- Where a key lives before deltas and after them.
-use Rattle.std.proofs.Common.{◌≡◌, ◌≢◌, ◌⊎◌, ℕ, true, false, cond, List, [], ◌∷◌, Option, Some, None, IsSome, refl, sym, ap, subst, ◌∙◌, inl, inr, arith}
+use Rattle.std.proofs.Common.{◌≡◌, ◌≢◌, ◌⊎◌, ℕ, true, cond, List, [], ◌∷◌, Option, Some, None, IsSome, refl, sym, ap, subst, ◌∙◌, inl, inr, arith}
 use Rattle.std.specs.List.{slice_get}
 use Rattle.std.proofs.lemmas.Bool.{cases_eq, cases_Bool}
 use Rattle.std.proofs.lemmas.Option.{slice_get_within, get_or_from_slice_get}
 use Rattle.cubit_base.specs.Key.{KeyValue, same_key}
 use Rattle.cubit_base.specs.Tuple.{TupleValue}
 use Rattle.cubit_base.specs.Table.{Row}
-use Rattle.cubit_base.specs.LiveRow.{IsFree}
 use Rattle.cubit_base.specs.Delta.{applied, IsUpdate, IsDelete, IsLawful}
 use Rattle.cubit_base.specs.History.{after, IsHistory, is_of_key, last_or}
 use Rattle.cubit_base.specs.declared.delta.Delta.{Delta}

@@ -1,5 +1,5 @@
 -- The key pages of tables before deltas and after them.
-use Rattle.std.proofs.Common.{◌≡◌, ◌≢◌, ◌⊎◌, ℕ, ◌+◌, ◌*◌, ◌/◌, ◌%◌, ◌<◌, List, length, map, get_or, slice_get, Option, Some, None, refl, sym, ap, subst, ◌∙◌, inl, inr, arith}
+use Rattle.std.proofs.Common.{◌≡◌, ◌≢◌, ℕ, ◌%◌, ◌<◌, List, length, map, get_or, slice_get, Option, Some, None, refl, sym, ap, subst, ◌∙◌, inl, inr, arith}
 use Rattle.std.specs.List.{All}
 use Rattle.std.specs.Prelude.{AllPairs}
 use Rattle.std.specs.Option.{option_map}
@@ -18,11 +18,11 @@ use Rattle.unit_version.specs.Merged.{AreMerged, change_entry, entry_of, entry_t
 use Rattle.unit_version.specs.declared.changes.keyed.KeyChange.{KeyChange}
 use Rattle.unit_version.specs.declared.keys.entry.Entry.{Entry}
 use Rattle.unit_version.proofs.Digests.{last-placed}
-use Rattle.unit_version.proofs.Entries.{IsAt-Has, IsAt-by_row, Has-keyed, code_of-key, key_of-code, rest_of-key}
+use Rattle.unit_version.proofs.Entries.{IsAt-by_row, Has-keyed, code_of-key, key_of-code, rest_of-key}
 use Rattle.unit_version.proofs.Finds.{find-at, find-placed, numbers-far}
 use Rattle.unit_version.proofs.KeyLives.{DeltaLaws, Lives, LivesBy, LivesOnce, IsTold, row-parts, told-by_last}
 use Rattle.unit_version.proofs.KeyPages.{Rises-keyed_from}
-use Rattle.unit_version.proofs.KeyedRows.{Has, Has-by_row, by_row-Has, Rises-by_row, same-Rises, same_key-true}
+use Rattle.unit_version.proofs.KeyedRows.{Has, by_row-Has, Rises-by_row, same-Rises, same_key-true}
 use Rattle.unit_version.proofs.LiveRows.{Lives-Has, Has-Lives, page-Has}
 use Rattle.unit_version.proofs.RowStates.{mapped, unmapped}
 use Rattle.unit_version.proofs.SortedCodes.{HasDistinctRows-pairs}

@@ -1,5 +1,5 @@
 -- The live rows of a page of keys, by their places in the table.
-use Rattle.std.proofs.Common.{◌≡◌, ℕ, zero, suc, ◌+◌, ◌%◌, ◌<◌, ◌==◌, true, List, [], ◌∷◌, slice_get, Some, None, refl, sym, ap, ◌∙◌, inl, inr, arith}
+use Rattle.std.proofs.Common.{◌≡◌, ℕ, zero, suc, ◌+◌, ◌%◌, ◌==◌, true, List, [], ◌∷◌, slice_get, Some, None, refl, sym, ap, ◌∙◌, inl, inr, arith}
 use Rattle.std.proofs.lemmas.Bool.{cases_Bool}
 use Rattle.std.proofs.lemmas.Bool.Decides.{nat_tests}
 use Rattle.std.proofs.lemmas.Option.{same_Some}
@@ -9,7 +9,7 @@ use Rattle.cubit_base.specs.Table.{Row}
 use Rattle.unit_version.specs.KeyedRow.{KeyedRow, keyed_from}
 use Rattle.unit_version.proofs.KeyedRows.{Has}
 use Rattle.unit_version.proofs.KeyLives.{Lives, row-parts}
-use Rattle.unit_version.proofs.KeyPages.{IsLive, IsLive-Has}
+use Rattle.unit_version.proofs.KeyPages.{IsLive-Has}
 
 -- a live row of the page lives in the table, and its key is of the page
 pub Lives-Has : (rest : ℕ) (table : List Row) (x : KeyedRow) → Has (keyed_from rest 0 table) x

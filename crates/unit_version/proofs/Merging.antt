@@ -1,17 +1,17 @@
 -- Entries merged with changes of keys, change by change.
 use Rattle.std.proofs.Common.{◌≡◌, ◌≢◌, ℕ, zero, suc, ◌+◌, ◌-◌, ◌<◌, ◌≤◌, ◌==◌, true, false, cond, List, [], ◌∷◌, ◌++◌, length, map, get_or, take, drop, Option, Some, None, refl, sym, ap, subst, ◌∙◌, append_assoc, inl, inr, arith}
-use Rattle.std.specs.List.{All, find}
+use Rattle.std.specs.List.{All}
 use Rattle.std.specs.Prelude.{slice_range}
-use Rattle.std.specs.Option.{option_or, option_map}
+use Rattle.std.specs.Option.{option_or}
 use Rattle.std.specs.List.Sorted.{IsStrictlyIncreasing}
 use Rattle.std.proofs.lemmas.Bool.{cases_eq, cases_lt}
 use Rattle.std.proofs.lemmas.Bool.Decides.{nat_tests}
-use Rattle.std.proofs.lemmas.List.{get_or-take, get_or-drop, get_or-map, get_or_append_left, get_or-append_right, length-append, length-map, length-take-le, length-drop, map-append, take_more, take-append-drop, drop-drop, drop-map}
+use Rattle.std.proofs.lemmas.List.{get_or-take, get_or-drop, get_or-map, get_or_append_left, get_or-append_right, length-append, length-map, length-take-le, length-drop, map-append, take-append-drop, drop-drop, drop-map}
 use Rattle.std.proofs.lemmas.List.Folds.{find-append}
 use Rattle.cubit_base.specs.Tuple.{TupleValue}
 use Rattle.unit_version.specs.Changes.{change_of_code}
 use Rattle.unit_version.specs.Entry.{codes}
-use Rattle.unit_version.specs.Merged.{AreBefore, AreMerged, IsGap, IsMergeStep, change_entry, change_entries, entry_list, entry_of, entry_then}
+use Rattle.unit_version.specs.Merged.{AreBefore, AreMerged, IsMergeStep, change_entry, change_entries, entry_of, entry_then}
 use Rattle.unit_version.specs.declared.changes.keyed.KeyChange.{KeyChange}
 use Rattle.unit_version.specs.declared.keys.entry.Entry.{Entry}
 use Rattle.unit_version.proofs.Finds.{find-absent, find-more, numbers-far, or-none}

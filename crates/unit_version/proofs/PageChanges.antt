@@ -1,11 +1,10 @@
 -- The tuples of rows after changes of rows.
-use Rattle.std.proofs.Common.{◌≡◌, ◌≢◌, ℕ, zero, suc, ◌+◌, ◌-◌, ◌*◌, ◌<◌, ◌≤◌, ◌==◌, true, false, cond, List, [], ◌∷◌, ◌++◌, length, map, get_or, set, take, drop, Option, Some, None, refl, sym, ap, ◌∙◌, inl, inr, arith}
-use Rattle.std.specs.List.{All, find}
+use Rattle.std.proofs.Common.{◌≡◌, ◌≢◌, ℕ, ◌+◌, ◌-◌, ◌<◌, ◌≤◌, ◌==◌, true, false, List, length, map, get_or, set, take, drop, Option, None, refl, sym, ap, ◌∙◌, inl, inr, arith}
 use Rattle.std.specs.Option.{option_or}
 use Rattle.std.specs.List.Sorted.{IsStrictlyIncreasing}
 use Rattle.std.proofs.lemmas.Bool.{cases_eq, cases_lt}
 use Rattle.std.proofs.lemmas.Bool.Decides.{nat_tests}
-use Rattle.std.proofs.lemmas.List.{get_or-take, get_or-drop, get_or-map, get_or_default, get_or-set_same, get_or-set_other, length-set, length-map, length-take-le, length-drop, take_more, take-append-drop, same_lists}
+use Rattle.std.proofs.lemmas.List.{get_or-take, get_or-drop, get_or_default, get_or-set_same, get_or-set_other, length-set, length-take-le, length-drop, take-append-drop, same_lists}
 use Rattle.std.proofs.lemmas.List.Folds.{find-append}
 use Rattle.std.proofs.lemmas.Option.{get_or_from_slice_get}
 use Rattle.cubit_base.specs.Tuple.{TupleValue}
@@ -13,12 +12,11 @@ use Rattle.cubit_base.specs.Table.{Row}
 use Rattle.cubit_base.specs.LiveRow.{tuple_at}
 use Rattle.cubit_base.specs.History.{after, IsHistory}
 use Rattle.cubit_base.specs.declared.delta.Delta.{Delta}
-use Rattle.unit_version.specs.Changes.{AreHeldThen, AreRowChanges, IsPlaceOf, change_of_row, held_then}
+use Rattle.unit_version.specs.Changes.{AreHeldThen, AreRowChanges, IsPlaceOf, change_of_row}
 use Rattle.unit_version.specs.Content.{tuples_from}
 use Rattle.unit_version.specs.declared.changes.row.RowChange.{RowChange}
 use Rattle.unit_version.proofs.Finds.{numbers-far, find-absent, find-more, or-none}
 use Rattle.unit_version.proofs.PageTuples.{length-tuples_from, slice_get-tuples_from}
-use Rattle.unit_version.proofs.Rising.{rising-far}
 use Rattle.unit_version.proofs.RowStates.{RowLaws, row-state}
 
 abbrev row_of : RowChange → ℕ

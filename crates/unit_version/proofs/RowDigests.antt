@@ -1,12 +1,11 @@
 -- What each row holds before deltas and after them.
-use Rattle.std.proofs.Common.{◌≡◌, ℕ, ◌+◌, ◌^◌, ◌<◌, ◌==◌, true, List, [], ◌∷◌, ◌++◌, length, map, get_or, Some, None, refl, sym, ap, ◌∙◌, inl, inr, arith}
-use Rattle.std.specs.List.{find, slice_get}
+use Rattle.std.proofs.Common.{◌≡◌, ℕ, ◌+◌, ◌^◌, ◌<◌, List, [], ◌∷◌, ◌++◌, length, get_or, Some, None, sym, ap, ◌∙◌, inl, inr, arith}
 use Rattle.std.specs.Option.{option_map}
 use Rattle.std.proofs.lemmas.Bool.{cases_eq}
 use Rattle.std.proofs.lemmas.Bool.Decides.{nat_tests}
-use Rattle.std.proofs.lemmas.List.{length-map, get_or-map, get_or_append_left, get_or_push, length_push}
+use Rattle.std.proofs.lemmas.List.{length-map, get_or-map, get_or_append_left, get_or_push}
 use Rattle.std.proofs.lemmas.Option.{same_Some}
-use Rattle.cubit_base.specs.History.{is_of_row, last_delta}
+use Rattle.cubit_base.specs.History.{is_of_row}
 use Rattle.cubit_base.specs.declared.delta.Delta.{Delta}
 use Rattle.unit_version.specs.Changes.{AreRowChanges, IsRowChange, row_number}
 use Rattle.unit_version.specs.Span.{AreTags, AreSpans}

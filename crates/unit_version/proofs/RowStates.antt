@@ -1,9 +1,8 @@
 -- What rows hold before deltas and after them, by what the deltas change.
-use Rattle.std.proofs.Common.{◌≡◌, ◌⊎◌, ℕ, ◌+◌, ◌<◌, ◌==◌, List, length, Option, Some, None, refl, sym, ap, ◌∙◌, inl, inr, arith, count_by}
+use Rattle.std.proofs.Common.{◌≡◌, ◌⊎◌, ℕ, ◌+◌, ◌<◌, List, length, Option, Some, None, refl, sym, ap, ◌∙◌, inl, inr, count_by}
 use Rattle.std.specs.List.{find, slice_get}
 use Rattle.std.specs.Option.{option_map, option_and_then}
 use Rattle.std.proofs.lemmas.Option.{slice_get_within, same_Some}
-use Rattle.cubit_base.specs.Tuple.{TupleValue}
 use Rattle.cubit_base.specs.Table.{Row}
 use Rattle.cubit_base.specs.LiveRow.{tuple_at}
 use Rattle.cubit_base.specs.Delta.{is_insert}

@@ -1,5 +1,5 @@
 -- Words told by their tuples.
-use Rattle.std.proofs.Common.{◌≡◌, ◌==◌, false, cond, refl, sym, ap, inl, inr, arith}
+use Rattle.std.proofs.Common.{◌≡◌, sym, ap, inl, inr, arith}
 use Rattle.std.proofs.lemmas.Bool.{cases_eq}
 use Rattle.std.proofs.lemmas.Bool.Decides.{nat_tests}
 use Rattle.cubit_base.specs.Word.{tuple_word, word_of}

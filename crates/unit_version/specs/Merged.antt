@@ -2,7 +2,6 @@
 use Rattle.std.specs.Prelude.{ℕ, ◌≡◌, ◌<◌, ◌≤◌, ◌==◌, List, [], ◌∷◌, ◌++◌, length, find, slice_index_or, slice_range, Option, Some, None}
 use Rattle.std.specs.List.Sorted.{IsStrictlyIncreasing}
 use Rattle.std.specs.Option.{option_map}
-use Rattle.cubit_base.specs.Tuple.{TupleValue}
 use Rattle.unit_version.specs.Changes.{change_of_code}
 use Rattle.unit_version.specs.Entry.{codes}
 use Rattle.unit_version.specs.declared.changes.keyed.KeyChange.{KeyChange}

@@ -2,6 +2,8 @@
 ghost use Rattle.std.specs.Prelude.{◌≡◌, ◌≢◌, ◌⊎◌, ◌+◌, ◌<◌, ◌≤◌, All, IsTrue, IfOk, length};
 ghost use Rattle.cubit_base.specs.LiveRow.{HasDistinctLiveKeys};
 
+mod histories;
+
 use super::*;
 use column_bins::{Column, bin_of};
 use cubit_base::{Flag, Key, LineStatus, Steps, Table, Tuple, laws};

@@ -1,4 +1,4 @@
-use Rattle.std.proofs.Common.{◌≡◌, ℕ, ◌+◌, ◌%◌, ◌<◌, ◌∙◌, Bool, List, map, refl, sym, ap, subst}
+use Rattle.std.proofs.Common.{◌≡◌, ℕ, ◌+◌, ◌<◌, ◌∙◌, Bool, List, map, refl, sym, ap, subst}
 use Rattle.std.specs.List.{All}
 use Rattle.std.specs.declared.alloc.Global.{Global}
 use Rattle.std.specs.declared.vec.Vec.{Vec}
@@ -9,7 +9,6 @@ use Rattle.unit_version.specs.Content.{content_of, is_live, is_in_bins, one_bin}
 use Rattle.unit_version.specs.KeyedRow.{KeyedRow, keyed_from}
 use Rattle.unit_version.specs.Patch.{IsSomeUnit}
 use Rattle.unit_version.specs.declared.changes.keyed.KeyChange.{KeyChange}
-use Rattle.unit_version.specs.declared.content.Content.{Content}
 use Rattle.unit_version.specs.declared.content.Content.TheVariants as content
 use Rattle.unit_version.specs.declared.unit.Unit.{Unit as IndexUnit}
 use Rattle.unit_version.specs.declared.unit.Unit.TheVariants as unit

@@ -1,4 +1,4 @@
-use Rattle.std.proofs.Common.{◌≡◌, ◌∙◌, [], ◌∷◌, ◌++◌, sym, ap}
+use Rattle.std.proofs.Common.{◌≡◌, ◌∙◌, [], ◌∷◌, ◌++◌, sym}
 use Rattle.unit_version.specs.Entry.{code_of}
 use Rattle.unit_version.specs.Span.{tag_of}
 use Rattle.unit_version.proofs.KeyTags.{AreKeyTags-more}

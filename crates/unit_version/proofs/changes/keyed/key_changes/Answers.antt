@@ -1,4 +1,4 @@
-use Rattle.std.proofs.Common.{◌≡◌, ℕ, ◌+◌, ◌<◌, List, length, get_or, ap, arith, rules}
+use Rattle.std.proofs.Common.{◌≡◌, ◌+◌, length, ap, arith}
 use Rattle.std.proofs.lemmas.List.{length_push}
 use Rattle.unit_version.proofs.KeyTags.{first-tags, other-tags, keyed-more}
 use Rattle.unit_version.proofs.changes.keyed.key_changes.Goals as goal

@@ -1,4 +1,4 @@
-use Rattle.std.proofs.Common.{◌≡◌, ◌+◌, ◌<◌, ◌∙◌, List, length, get_or, ap, sym, subst, arith}
+use Rattle.std.proofs.Common.{List, length, get_or, ap, sym, subst, arith}
 use Rattle.std.proofs.lemmas.List.{get_or_default, length_push}
 use Rattle.unit_version.specs.Changes.{IsKeyChange, key_number}
 use Rattle.unit_version.specs.Span.{AreSpans}

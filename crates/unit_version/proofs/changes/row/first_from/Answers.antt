@@ -1,4 +1,4 @@
-use Rattle.std.proofs.Common.{◌+◌, ◌-◌, ◌/◌, ◌<◌, ◌≤◌, length, arith}
+use Rattle.std.proofs.Common.{◌+◌, ◌-◌, ◌/◌, arith}
 use Rattle.unit_version.proofs.PageChanges.{lower-before, higher-behind}
 use Rattle.unit_version.proofs.changes.row.first_from.Goals as goal
 

@@ -1,4 +1,4 @@
-use Rattle.std.proofs.Common.{◌≡◌, ◌<◌, length, take, sym, arith, refl}
+use Rattle.std.proofs.Common.{◌<◌, length, take, sym, arith, refl}
 use Rattle.std.proofs.lemmas.List.{take_more, length-take-le}
 use Rattle.unit_version.specs.Changes.{row_number}
 use Rattle.unit_version.proofs.Digests.{AreTags-more}

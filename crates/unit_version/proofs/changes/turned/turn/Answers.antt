@@ -1,4 +1,3 @@
-use Rattle.std.proofs.Common.{arith}
 use Rattle.unit_version.proofs.TurnedLists.{turned-none, turned-all, turned-more}
 use Rattle.unit_version.proofs.changes.turned.turn.Goals as goal
 

@@ -1,4 +1,4 @@
-use Rattle.std.proofs.Common.{◌<◌, length, take, arith, sym}
+use Rattle.std.proofs.Common.{◌<◌, length, take, arith}
 use Rattle.std.proofs.lemmas.List.{take_more}
 use Rattle.unit_version.proofs.changes.turned.turned_rows.Goals as goal
 

@@ -1,5 +1,4 @@
-use Rattle.std.proofs.Common.{◌≡◌, ◌∙◌}
-use Rattle.unit_version.specs.KeyedRow.{keyed_from}
+use Rattle.std.proofs.Common.{◌∙◌}
 use Rattle.unit_version.proofs.KeyLives.{DeltaLaws}
 use Rattle.unit_version.proofs.KeysAfter.{keys-after}
 use Rattle.unit_version.proofs.keys.Keys.patched.Goals as goal

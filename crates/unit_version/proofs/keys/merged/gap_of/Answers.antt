@@ -1,6 +1,5 @@
-use Rattle.std.proofs.Common.{◌≡◌, ◌≢◌, ◌-◌, ◌<◌, ◌∙◌, length, get_or, ap, sym, arith}
+use Rattle.std.proofs.Common.{◌≢◌, ◌-◌, ◌<◌, ◌∙◌, length, get_or, ap, arith}
 use Rattle.std.proofs.lemmas.List.{get_or_default, length-map}
-use Rattle.unit_version.specs.Merged.{IsGap}
 use Rattle.unit_version.specs.declared.keys.entry.Entry.{Entry}
 use Rattle.unit_version.proofs.Gaps.{gap-one, gap-none, gap-order}
 use Rattle.unit_version.proofs.keys.merged.gap_of.Goals as goal

@@ -1,7 +1,6 @@
-use Rattle.std.proofs.Common.{◌≡◌, ◌*◌, ◌∙◌, ◌++◌, List, Option, ap, subst, sym}
+use Rattle.std.proofs.Common.{◌≡◌, ◌*◌, ◌∙◌, ◌++◌, List, Option, ap}
 use Rattle.cubit_base.specs.Tuple.{TupleValue}
 use Rattle.cubit_base.specs.declared.table.TheConstants.{ROW_LIMIT}
-use Rattle.unit_version.specs.Changes.{AreHeldThen}
 use Rattle.unit_version.proofs.RowStates.{RowLaws}
 use Rattle.unit_version.proofs.PageChanges.{tuples_from-after}
 use Rattle.unit_version.proofs.page.Page.patched.Goals as goal
