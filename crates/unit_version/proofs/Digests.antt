@@ -263,11 +263,16 @@ pub digested : {Y : Type 0} (g : Y → ℕ) (number_of : Delta → Option ℕ) (
     ⊎ ((find (λ y. g y == n) ys ≡ None) × IsUntold deltas test)
 digested g number_of deltas tags spans ys test n few are spans_are long same agrees =
     elim (found-or-missing number g n spans ys long same) [
-      | inl found ↦ inl (found, λ s.
-          let here = found.is s in
-          IsDigest-span number_of deltas tags test (get_or spans found.place s) few are
-          (spans_are.each found.place s found.within)
-          (subst (λ m. IsTestOf number_of m deltas test) (sym here) agrees))
-      | inr missing ↦ inr (missing.finds,
-          IsUntold-missing g number_of deltas tags spans ys test n are spans_are agrees missing few)
+      | inl found ↦ inl (
+        found,
+        λ s.
+            let here = found.is s in
+            IsDigest-span number_of deltas tags test (get_or spans found.place s) few are
+            (spans_are.each found.place s found.within)
+            (subst (λ m. IsTestOf number_of m deltas test) (sym here) agrees),
+      )
+      | inr missing ↦ inr (
+        missing.finds,
+        IsUntold-missing g number_of deltas tags spans ys test n are spans_are agrees missing few,
+      )
     ]

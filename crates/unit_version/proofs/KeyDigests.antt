@@ -72,21 +72,21 @@ AreKeyChanges-spans rest deltas tags spans changes few lines tags_are spans_are 
           ∙ sym (get_or-map number spans (k + 1) s 0 low) in
           rw (here, next) up;
       last = λ key of_page low. elim (digested code (key_number rest) deltas tags spans changes (is_of_key key)
-      (code_of key) few tags_are spans_are long codes (is_of_key-test rest key deltas of_page low lines)) [
-        | inl told ↦
-            let digest = told.1 s in
-            let change = each told.0.place s c told.0.within in
-            let built : (f : ℕ → Option TupleValue → ℕ × Option TupleValue)
-            → f (get_or changes told.0.place c).row (get_or changes told.0.place c).after
-            ≡ f digest.last.row digest.last.after =
-            λ f. rw (change.row digest.last digest.last_at, change.last digest.last digest.last_at) refl in
-            ap (option_map key_change) (told.0.finds c)
-            ∙ ap Some (built (λ r t. (r, t)))
-            ∙ sym (ap (option_map key_delta) digest.last_is)
-        | inr untold ↦
-            ap (option_map key_change) untold.0
-            ∙ sym (ap (option_map key_delta) untold.1.last_none)
-      ];
+          (code_of key) few tags_are spans_are long codes (is_of_key-test rest key deltas of_page low lines)) [
+            | inl told ↦
+                let digest = told.1 s in
+                let change = each told.0.place s c told.0.within in
+                let built : (f : ℕ → Option TupleValue → ℕ × Option TupleValue)
+                → f (get_or changes told.0.place c).row (get_or changes told.0.place c).after
+                ≡ f digest.last.row digest.last.after =
+                λ f. rw (change.row digest.last digest.last_at, change.last digest.last digest.last_at) refl in
+                ap (option_map key_change) (told.0.finds c)
+                ∙ ap Some (built (λ r t. (r, t)))
+                ∙ sym (ap (option_map key_delta) digest.last_is)
+            | inr untold ↦
+                ap (option_map key_change) untold.0
+                ∙ sym (ap (option_map key_delta) untold.1.last_none)
+          ];
     }
 
 -- one change more

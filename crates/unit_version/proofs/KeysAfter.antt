@@ -49,10 +49,11 @@ module _ (rest other : ℕ) (other_low : other < 64) (table : List Row) (old : L
       let line : e.code % 8 ≡ key.line = ap (λ (k : KeyValue). k.line) of_key in
       let found = find-at code old there.place e up there.within there.at in
       let built : (f : ℕ → ℕ → TupleValue → Entry) → f e.code e.row e.tuple ≡ f (code_of key) n tuple =
-      λ f. rw (of_code, of_row, of_tuple) refl in
-      (omega (arith, line),
-      ap (λ m. entry_of m old) (sym of_code) ∙ found
-      ∙ ap Some (built (λ c r t. record { code = c; row = r; tuple = t })))
+      λ f. rw (of_code, of_row, of_tuple) refl in (
+        omega (arith, line),
+        ap (λ m. entry_of m old) (sym of_code) ∙ found
+            ∙ ap Some (built (λ c r t. record { code = c; row = r; tuple = t })),
+      )
 
   -- and an entry's key lives in the table
   pub lives-of_entry : (key : KeyValue) (e : Entry) → key.order % 64 ≡ rest → key.line < 8

@@ -154,8 +154,10 @@ module _ (entries : List Entry) (changes : List KeyChange) (i : ℕ) (c : KeyCha
             let long = length-piece entries from step.gap
             (let order = step.is_gap.order in let inside = step.is_gap.within in omega arith) in
             let inside : k - length old < step.gap - from = omega (arith, length-append old range) in
-            rw (get_or-append_right old range (length old) k e refl behind,
-            at-piece entries from step.gap (k - length old) e inside)
+            rw (
+              get_or-append_right old range (length old) k e refl behind,
+              at-piece entries from step.gap (k - length old) e inside,
+            )
             (step.is_gap.before (from + (k - length old)) e (omega arith))
       ]
 

@@ -92,8 +92,12 @@ tuples_from-after laws limit table h changes first count old new lawful are is t
     ∙ sym (length-tuples_from (after table h) first count))
     (λ k d inside.
     let low : k < count =
-    omega (arith, then.long, ap (λ (tuples : List (Option TupleValue)). length tuples) is,
-    length-tuples_from table first count) in
+    omega (
+      arith,
+      then.long,
+      ap (λ (tuples : List (Option TupleValue)). length tuples) is,
+      length-tuples_from table first count,
+    ) in
     let was : get_or old k None ≡ tuple_at table (first + k) =
     ap (λ tuples. get_or tuples k None) is
     ∙ get_or_from_slice_get (tuples_from table first count) k (tuple_at table (first + k)) None

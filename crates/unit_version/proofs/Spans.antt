@@ -157,9 +157,9 @@ AreSpans-more tags spans n place low are behind differs =
     let long = length-map spans number in
     record {
       rising = rw numbers (rising-push (map number spans) n are.rising (λ some.
-      let at = number-at spans (length (map number spans) - 1) new (omega arith) in
-      let under = below (length (map number spans) - 1) new (omega arith) in
-      omega arith));
+          let at = number-at spans (length (map number spans) - 1) new (omega arith) in
+          let under = below (length (map number spans) - 1) new (omega arith) in
+          omega arith));
       each = λ k d within. elim (cases_lt k (length spans)) [
         | inl before ↦ rw (get_or_append_left spans (new ∷ []) d k before)
             (IsSpan-other tags (get_or spans k d) n place low

@@ -130,9 +130,9 @@ rows-below laws limit table h changes lawful are k d low =
       | inl changed ↦ changed.within
       | inr kept ↦ elim (found-or-missing (λ (c : RowChange). c.row) (λ (c : RowChange). c.row) n changes changes refl
           (λ j e f j_low. ap (λ (c : RowChange). c.row) (get_or_default changes j f e j_low))) [
-        | inl found ↦ (let some = sym kept.found ∙ found.finds d in absurd cc)
-        | inr missing ↦ absurd (missing.nowhere k d low refl)
-      ]
+            | inl found ↦ (let some = sym kept.found ∙ found.finds d in absurd cc)
+            | inr missing ↦ absurd (missing.nowhere k d low refl)
+          ]
     ]
 
 -- the list after deltas is that before them with the turned rows turned

@@ -15,8 +15,8 @@ pub(crate) use row::{RowChange, first_from};
 use std::alloc::Global;
 use std::marker::Model;
 use std::snapshot::Snapshot;
-pub(crate) use turned::{LIVE_PLACE, first_place};
 use turned::turned_rows;
+pub(crate) use turned::{LIVE_PLACE, first_place};
 
 /// What deltas change, row by row, bin by bin and key by key; contracts see the deltas.
 #[derive(Drop)]

@@ -2,7 +2,9 @@
 ghost use Rattle.std.specs.Prelude.{◌≡◌, ◌≢◌, ◌⊎◌, ◌+◌, ◌<◌, ◌≤◌, All, IsTrue, IfOk, length};
 ghost use Rattle.cubit_base.specs.LiveRow.{HasDistinctLiveKeys};
 
+mod carry;
 mod histories;
+mod story;
 
 use super::*;
 use column_bins::{Column, bin_of};

@@ -1,0 +1,41 @@
+// A caller that goes on from the base over two stretches of a history, as a version does from a prefix of the log.
+ghost use Rattle.std.specs.Prelude.{◌≡◌, ◌++◌, IfOk};
+ghost use Rattle.cubit_base.specs.History.{after, rows_after, IsHistory};
+ghost use Rattle.wah_words.specs.Place.{page_count};
+ghost use Rattle.unit_version.specs.Content.{content_of};
+ghost use Rattle.unit_version.specs.Patch.{IsSomeUnit};
+ghost use Rattle.unit_version.specs.Unit.{IsUnit};
+
+use crate::{Base, Content, Memory, Unit, patched};
+use cubit_base::{DeltaList, laws};
+use std::alloc::Global;
+
+/// What the unit holds after both stretches, where there are so many rows after each.
+pub(super) fn carried(
+    alloc: Global,
+    base: &Base,
+    unit: Unit,
+    first: &DeltaList,
+    rows_between: u32,
+    second: &DeltaList,
+    rows_then: u32,
+) -> Result<Content, Memory>
+    requires unit { IsUnit (page_count base.now.row_room) unit }
+    requires some { IsSomeUnit unit }
+    requires lawful { IsHistory 16_777_216 base.now.table (first.now ++ second.now) }
+    requires between { rows_after base.now.table first.now ≡ rows_between }
+    requires end { rows_after base.now.table (first.now ++ second.now) ≡ rows_then }
+    ensures { IfOk result (λ content.
+        content ≡ content_of unit (after base.now.table (first.now ++ second.now))) }
+{
+    laws::histories();
+    let version = patched(
+        alloc,
+        unit,
+        base.content(unit),
+        base.rows(),
+        first,
+        rows_between,
+    )?;
+    patched(alloc, unit, &version, rows_between, second, rows_then)
+}

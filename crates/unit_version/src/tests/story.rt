@@ -1,0 +1,222 @@
+// Histories over small tables: each unit after them is that of the table after them, made afresh.
+ghost use Rattle.std.specs.Prelude.{◌≡◌, ◌<◌, ◌≤◌, ◌+◌, List, [], IfOk, OnOk, length};
+ghost use Rattle.column_bins.specs.Column.{bin_count};
+ghost use Rattle.cubit_base.specs.Table.{Row};
+ghost use Rattle.cubit_base.specs.LiveRow.{HasDistinctLiveKeys};
+ghost use Rattle.cubit_base.specs.History.{after, IsHistory};
+ghost use Rattle.wah_words.specs.Place.{page_count};
+ghost use Rattle.unit_version.specs.Unit.{IsUnit};
+ghost use Rattle.unit_version.specs.Patch.{IsSomeUnit};
+
+use super::histories::{Rows, change, follow, insert, rows_of, table_from};
+use super::{key_of, table_of, tuple_of};
+use crate::{Base, Changes, Content, Memory, Unit, patched, patched_by};
+use column_bins::Column;
+use cubit_base::{DeltaList, Key, Steps, Tuple, laws};
+use std::alloc::Global;
+use std::marker::Brand;
+use std::process::Abort;
+use std::sync::ledger::{Blank, Ledger};
+use std::test::Fail;
+
+// Goes on by so many drawn deltas at most: inserts, deletes, and updates of whole tuples.
+fn draw(alloc: Global, rows: &mut Rows, count: u32, seed: u64) -> Result<DeltaList, Memory>
+    requires { length rows.old.items + count ≤ 100_000 }
+    ensures lawful { IfOk result (λ deltas. IsHistory 16_777_216 rows.old.items deltas) }
+    ensures then { IfOk result (λ deltas. rows.new.items ≡ after rows.old.items deltas) }
+{
+    let mut deltas = DeltaList::new(alloc);
+    let mut state = seed;
+    for n in 0..count {
+        state = state
+            .wrapping_mul(6_364_136_223_846_793_005)
+            .wrapping_add(1_442_695_040_888_963_407);
+        let drawn = (state >> 40) as u32;
+        let row = drawn % (rows.len() as u32).max(1);
+        let delta = match n % 10 {
+            0 => match tuple_of(drawn % 5_000) {
+                Some(tuple) => insert(rows, key_of(drawn % 9_000), tuple),
+                None => None,
+            },
+            1 => change(rows, row, None),
+            _ => change(rows, row, tuple_of(drawn % 70_000)),
+        };
+        follow(rows, &mut deltas, delta)?;
+    }
+    Ok(deltas)
+}
+
+// Both contents are alike, where keys are asked for those of the rows.
+fn is_same<N: Ledger>(
+    rt: &impl Abort,
+    made: &Content,
+    afresh: &Content,
+    rows: &Rows,
+    reads: &mut Steps<N>,
+) {
+    match (made, afresh) {
+        (Content::Bits(a), Content::Bits(b)) => {
+            assert_eq!(rt; a.wah().words(), b.wah().words());
+            for page in 0..b.wah().len() / 3_968 + 1 {
+                let (mut x, mut y) = ([0; 128], [0; 128]);
+                a.window(page, &mut x);
+                b.window(page, &mut y);
+                assert!(rt; x == y, "page {page}");
+            }
+        }
+        (Content::Page(a), Content::Page(b)) => {
+            for at in 0..3_968 {
+                assert_eq!(rt; a.get(at, reads), b.get(at, reads), "at {at}");
+            }
+        }
+        (Content::Keys(a), Content::Keys(b)) => {
+            for n in 0..rows.len() {
+                let (key, _) = rows[n];
+                assert_eq!(rt; a.find(&key), b.find(&key));
+            }
+        }
+        _ => assert!(rt; false, "of two kinds"),
+    }
+}
+
+// The unit after deltas is that of the base after them.
+fn follows<N: Ledger, R: Abort + AllocGlobal>(
+    rt: &R,
+    unit: Unit,
+    base: &Base,
+    deltas: &DeltaList,
+    changes: &Changes,
+    then: &Base,
+    rows: &Rows,
+    reads: &mut Steps<N>,
+) -> Result<(), Memory>
+    requires unit { IsUnit (page_count base.now.row_room) unit }
+    requires some { IsSomeUnit unit }
+    requires room { then.now.row_room ≡ base.now.row_room }
+    requires lawful { IsHistory 16_777_216 base.now.table deltas.now }
+    requires changes { changes.now ≡ deltas.now }
+    requires end { then.now.table ≡ after base.now.table deltas.now }
+{
+    let content = base.content(unit);
+    let made = patched_by(rt.alloc(), unit, content, base.rows(), changes, then.rows())?;
+    is_same(rt, &made, then.content(unit), rows, reads);
+    let made = patched(rt.alloc(), unit, content, base.rows(), deltas, then.rows())?;
+    is_same(rt, &made, then.content(unit), rows, reads);
+    Ok(())
+}
+
+// Each bin of a column.
+fn bins_follow<N: Ledger, R: Abort + AllocGlobal>(
+    rt: &R,
+    column: Column,
+    bins: u8,
+    base: &Base,
+    deltas: &DeltaList,
+    changes: &Changes,
+    then: &Base,
+    rows: &Rows,
+    reads: &mut Steps<N>,
+) -> Result<(), Memory>
+    requires bins { bins ≤ bin_count column }
+    requires room { then.now.row_room ≡ base.now.row_room }
+    requires lawful { IsHistory 16_777_216 base.now.table deltas.now }
+    requires changes { changes.now ≡ deltas.now }
+    requires end { then.now.table ≡ after base.now.table deltas.now }
+{
+    for bin in 0..bins {
+        follows(
+            rt,
+            Unit::Bin(column, bin),
+            base,
+            deltas,
+            changes,
+            then,
+            rows,
+            reads,
+        )?;
+    }
+    Ok(())
+}
+
+// Each unit.
+fn all_follow<N: Ledger, R: Abort + AllocGlobal>(
+    rt: &R,
+    base: &Base,
+    deltas: &DeltaList,
+    then: &Base,
+    rows: &Rows,
+    blank: Blank,
+) -> Result<(), Memory>
+    requires name { blank.name ≡ N.name }
+    requires parts { blank.parts ≡ N.parts }
+    requires some { 0 < N.parts }
+    requires room { then.now.row_room ≡ base.now.row_room }
+    requires limit { base.now.row_room ≤ 16_777_216 }
+    requires lawful { IsHistory 16_777_216 base.now.table deltas.now }
+    requires end { then.now.table ≡ after base.now.table deltas.now }
+{
+    let reads = &mut Steps::<N>::make(blank);
+    let changes = &Changes::of(rt.alloc(), deltas)?;
+    follows(rt, Unit::Live, base, deltas, changes, then, rows, reads)?;
+    for (column, bins) in [
+        (Column::Ship, 84),
+        (Column::Disc, 11),
+        (Column::Qty, 50),
+        (Column::Flag, 3),
+        (Column::Status, 2),
+    ] {
+        bins_follow(rt, column, bins, base, deltas, changes, then, rows, reads)?;
+    }
+    for page in 0..base.pages() {
+        follows(
+            rt,
+            Unit::Page(page),
+            base,
+            deltas,
+            changes,
+            then,
+            rows,
+            reads,
+        )?;
+    }
+    for rest in 0..64 {
+        follows(
+            rt,
+            Unit::Keys(rest),
+            base,
+            deltas,
+            changes,
+            then,
+            rows,
+            reads,
+        )?;
+    }
+    Ok(())
+}
+
+// A history from a table of so many rows, of which so many deltas are drawn.
+fn story<R: Abort + AllocGlobal>(rt: &R, rows: u32, count: u32, seed: u64) -> Result<(), Memory>
+    requires rows { rows ≤ 5_000 }
+    requires count { count ≤ 5_000 }
+{
+    laws::live_rows();
+    let alloc = rt.alloc();
+    let table = table_of(alloc, rows)?;
+    let mut rows = rows_of(alloc, &table)?;
+    let deltas = draw(alloc, &mut rows, count, seed)?;
+    let room = rows.len() as u32 + 1;
+    let then = Base::build(alloc, table_from(alloc, &rows)?, room)?;
+    if table.len() <= room {
+        let base = Base::build(alloc, table, room)?;
+        all_follow::<Brand, _>(rt, &base, &deltas, &then, &rows, Blank::new(1))?;
+    }
+    Ok(())
+}
+
+#[test]
+fn units_follow_a_drawn_history(rt: HostRuntime) -> Result<(), Fail> {
+    story(&rt, 4_400, 700, 1)?;
+    story(&rt, 0, 60, 2)?;
+    story(&rt, 3_968, 0, 3)?;
+    Ok(())
+}
