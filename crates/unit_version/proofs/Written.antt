@@ -83,6 +83,18 @@ AreWritten-more bins part tile page count old new few are page_bins is long push
       ∙ group_at-page bins part page k i page_bins (omega (arith, within, are.long, few)) inside));
 }
 
+-- there is room for a page more
+pub AreWritten-room : (bins : List ℕ) (pages count : ℕ) (lists : List (List ℕ)) → AreWritten bins pages 0 count lists
+    → pages < 5000 → (bin : ℕ) → length (get_or lists bin []) + 128 < 2 ^ 30
+AreWritten-room bins pages count lists are few bin =
+    elim (cases_lt bin (length lists)) [
+      | inl within ↦
+          let here : 0 + bin ≡ bin = omega arith in
+          let written = rw here at (are.each bin within) in
+          omega (arith, written.long, few)
+      | inr past ↦ let none = get_or_past lists bin [] past in rw none (omega arith)
+    ]
+
 -- the lists without the first
 pub AreWritten-rest : (bins : List ℕ) (pages first after : ℕ) (lists : List (List ℕ)) → 0 < length lists
     → AreWritten bins pages first after lists → AreWritten bins pages (first + 1) after (remove lists 0)

@@ -1,5 +1,6 @@
 pub mod Base
 pub mod BaseValue
+pub mod Columns
 pub mod Content
 pub mod Entry
 pub mod KeyedRow

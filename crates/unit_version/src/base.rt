@@ -13,7 +13,7 @@ mod tile;
 
 use crate::keys::key_pages;
 use crate::{Content, Memory, Page, Unit};
-use bits::{bin_contents, live_content};
+use bits::{column_contents, live_content};
 use column_bins::Column;
 use cubit_base::Table;
 use fence_window::PAGE_ROWS;
@@ -58,15 +58,16 @@ impl Base {
         requires limit { row_room ≤ ROW_LIMIT }
         ensures { IfOk result (λ base. base ≡ record { table = table; row_room = row_room }) }
     {
+        let columns = column_contents(alloc, &table)?;
         Ok(Base {
             row_room,
             rows: table.len(),
             live: live_content(alloc, &table)?,
-            ship: bin_contents(alloc, &table, Column::Ship)?,
-            disc: bin_contents(alloc, &table, Column::Disc)?,
-            qty: bin_contents(alloc, &table, Column::Qty)?,
-            flag: bin_contents(alloc, &table, Column::Flag)?,
-            status: bin_contents(alloc, &table, Column::Status)?,
+            ship: columns.ship,
+            disc: columns.disc,
+            qty: columns.qty,
+            flag: columns.flag,
+            status: columns.status,
             pages: page_contents(alloc, &table, row_room.div_ceil(PAGE_ROWS))?,
             keys: key_pages(alloc, &table)?,
             table: Snapshot::of(&table),

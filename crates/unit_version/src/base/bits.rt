@@ -1,5 +1,5 @@
 //! The bitvectors of a table: which rows are live, and which live rows are in a bin.
-ghost use Rattle.std.specs.Prelude.{◌≡◌, ◌<◌, ◌≤◌, [], length, map, replicate, slice_index_or, IfOk, OnOk, ◌*◌};
+ghost use Rattle.std.specs.Prelude.{◌≡◌, ◌<◌, ◌≤◌, [], length, map, replicate, slice_index_or, IfOk, OnOk, ◌+◌, ◌*◌, ◌^◌, ℕ, List};
 ghost use Rattle.cubit_base.specs.Key.{KeyValue};
 ghost use Rattle.cubit_base.specs.declared.table.TheConstants.{ROW_LIMIT};
 ghost use Rattle.column_bins.specs.Column.{bin_count, tuple_bin};
@@ -7,6 +7,8 @@ ghost use Rattle.column_bins.specs.Month.{month_of};
 ghost use Rattle.unit_version.specs.Content.{content_of, AreContents};
 ghost use Rattle.unit_version.specs.RowBins.{AreMonths, row_bin};
 ghost use Rattle.unit_version.specs.Tile.{ArePageBins, AreWritten};
+ghost use Rattle.unit_version.specs.Columns.{AreColumns, HasPages};
+ghost use Rattle.cubit_base.specs.Table.{Row};
 ghost use Rattle.wah_words.specs.Place.{page_count};
 ghost use Rattle.unit_version.specs.declared.unit.Unit.TheVariants as unit;
 
@@ -44,18 +46,108 @@ pub(crate) fn live_content(alloc: Global, table: &Table) -> Result<Content, Memo
     Ok(Content::Bits(Fenced::make(alloc, wah)?))
 }
 
-/// Which live rows are in each bin of the column. It takes one pass over the rows, and room for a word for each bin and
-/// each 31 rows.
-pub(crate) fn bin_contents(
+/// Which live rows are in each bin of each column.
+#[derive(Drop)]
+pub(crate) struct Columns {
+    pub(crate) ship: Vec<Content>,
+    pub(crate) disc: Vec<Content>,
+    pub(crate) qty: Vec<Content>,
+    pub(crate) flag: Vec<Content>,
+    pub(crate) status: Vec<Content>,
+}
+
+/// The bins of all columns. It takes one pass over the rows, and room for a word for each bin and each 31 rows.
+pub(crate) fn column_contents(alloc: Global, table: &Table) -> Result<Columns, Memory>
+    ensures { IfOk result (AreColumns table.now) }
+{
+    let pages = table.len().div_ceil(PAGE_ROWS);
+    let months = months_of_days();
+    let mut ship = empty_writer(alloc, Column::Ship, pages)?;
+    let mut disc = empty_writer(alloc, Column::Disc, pages)?;
+    let mut qty = empty_writer(alloc, Column::Qty, pages)?;
+    let mut flag = empty_writer(alloc, Column::Flag, pages)?;
+    let mut status = empty_writer(alloc, Column::Status, pages)?;
+    for page in 0..pages {
+        // The rows of a page are near for all columns but the first.
+        write_page(&mut ship, table, Column::Ship, &months, page)?;
+        write_page(&mut disc, table, Column::Disc, &months, page)?;
+        write_page(&mut qty, table, Column::Qty, &months, page)?;
+        write_page(&mut flag, table, Column::Flag, &months, page)?;
+        write_page(&mut status, table, Column::Status, &months, page)?;
+    }
+    Ok(Columns {
+        ship: finished(alloc, ship, table, Column::Ship)?,
+        disc: finished(alloc, disc, table, Column::Disc)?,
+        qty: finished(alloc, qty, table, Column::Qty)?,
+        flag: finished(alloc, flag, table, Column::Flag)?,
+        status: finished(alloc, status, table, Column::Status)?,
+    })
+}
+
+// The lists of a column's bins in the making, and the tile by way of which they are written.
+#[derive(Drop)]
+struct BinWriter {
+    lists: Vec<PageWriter>,
+    tile: Vec<u32>,
+}
+
+// No pages yet, with room for so many.
+fn empty_writer(alloc: Global, column: Column, pages: u32) -> Result<BinWriter, Memory>
+    ensures { (table : List Row) → IfOk result (HasPages table column 0) }
+{
+    let count = usize::from(bin_count(column));
+    Ok(BinWriter {
+        lists: empty_lists(alloc, count, pages)?,
+        tile: vec![in alloc; 0; BIN_NUMBERS * count]?,
+    })
+}
+
+// Writes the next page of each bin.
+fn write_page(
+    writer: &mut BinWriter,
+    table: &Table,
+    column: Column,
+    months: &Months,
+    page: u32,
+) -> Result<(), Memory>
+    requires page { page < page_count ROW_LIMIT }
+    requires months { AreMonths months.now }
+    requires before { HasPages table.now column page writer.old }
+    ensures { OnOk result (HasPages table.now column (page + 1) writer.new) }
+{
+    let mut bins = [NO_BIN; PAGE_ROWS as usize];
+    read_bins(&mut bins, table, column, months, page);
+    write_bins(&mut writer.lists, &mut writer.tile, &bins)?;
+    Ok(())
+}
+
+// Writes a page of each bin.
+fn write_bins(lists: &mut [PageWriter], tile: &mut [u32], bins: &PageBins) -> Result<(), Memory>
+    requires whole { length tile.old ≡ 144 * length lists.old }
+    requires few { length lists.old ≤ 255 }
+    requires room { (bin : ℕ) → length (slice_index_or lists.old bin []) + 128 < 2 ^ 30 }
+    ensures { OnOk result ((rows : List ℕ) (page count : ℕ) → ArePageBins rows page bins.now
+        → AreWritten rows page 0 count lists.old → AreWritten rows (page + 1) 0 count lists.new) }
+{
+    laws::groups();
+    fill(tile, bins);
+    push_page(lists, tile)?;
+    Ok(())
+}
+
+// The bitvectors of the bins, once all pages are written.
+fn finished(
     alloc: Global,
+    writer: BinWriter,
     table: &Table,
     column: Column,
 ) -> Result<Vec<Content>, Memory>
+    requires { HasPages table.now column (page_count (length table.now)) writer }
     ensures { IfOk result (λ contents. AreContents (unit.Bin column) table.now (bin_count column) contents.items) }
 {
     laws::groups();
     pages_of_list();
-    let mut lists = written_lists(alloc, table, column)?;
+    let mut lists = writer.lists;
     let count = bin_count(column);
     let mut contents = Vec::with_capacity(alloc, usize::from(count))?;
     for _bin in 0..count {
@@ -63,41 +155,6 @@ pub(crate) fn bin_contents(
         contents.push(Content::Bits(list))?;
     }
     Ok(contents)
-}
-
-// The pages of each bin.
-fn written_lists(alloc: Global, table: &Table, column: Column) -> Result<Vec<PageWriter>, Memory>
-    ensures { IfOk result (λ lists.
-        AreWritten (map (row_bin column) table.now) (page_count (length table.now)) 0 (bin_count column) lists.items) }
-{
-    let count = usize::from(bin_count(column));
-    let mut lists = empty_lists(alloc, count, table.len().div_ceil(PAGE_ROWS))?;
-    let mut tile = vec![in alloc; 0; BIN_NUMBERS * count]?;
-    write_pages(&mut lists, &mut tile, table, column)?;
-    Ok(lists)
-}
-
-// Writes all pages of each bin, one after another by way of the tile.
-fn write_pages(
-    lists: &mut [PageWriter],
-    tile: &mut [u32],
-    table: &Table,
-    column: Column,
-) -> Result<(), Memory>
-    requires none { lists.old ≡ replicate (bin_count column) [] }
-    requires whole { length tile.old ≡ 144 * length lists.old }
-    ensures { OnOk result (AreWritten (map (row_bin column) table.now) (page_count (length table.now)) 0
-        (bin_count column) lists.new) }
-{
-    laws::groups();
-    let months = months_of_days();
-    let mut bins = [NO_BIN; PAGE_ROWS as usize];
-    for page in 0..table.len().div_ceil(PAGE_ROWS) {
-        read_bins(&mut bins, table, column, &months, page);
-        fill(tile, &bins);
-        push_page(lists, tile)?;
-    }
-    Ok(())
 }
 
 // So many lists with nothing in them, and with room for so many pages.

@@ -9,11 +9,11 @@ use Rattle.std.proofs.lemmas.List.{length-map}
 use Rattle.unit_version.proofs.RowBits.{few-bins}
 use Rattle.unit_version.proofs.Contents.{AreContents-none, AreContents-more}
 use Rattle.unit_version.proofs.Written.{first_list, AreWritten-rest}
-use Rattle.unit_version.proofs.base.bits.bin_contents.Goals as goal
+use Rattle.unit_version.proofs.base.bits.finished.Goals as goal
 
 pub loop-bin-init : goal.loop-bin-init
 loop-bin-init c = record {
-  lists = c.in_ok-lists.ensures;
+  lists = c.requires.written;
   made = rw c.in_ok-contents.ensures.items (AreContents-none (unit.Bin c.args.column) c.args.table.now);
 }
 

@@ -5,7 +5,7 @@ use Rattle.unit_version.specs.Content.{AreContents}
 use Rattle.unit_version.specs.RowBins.{row_bin}
 use Rattle.unit_version.specs.Tile.{AreWritten}
 use Rattle.unit_version.specs.declared.unit.Unit.TheVariants as unit
-use Rattle.unit_version.proofs.base.bits.bin_contents.Given as goal
+use Rattle.unit_version.proofs.base.bits.finished.Given as goal
 
 abbrev pub invariant-loop-bin : goal.invariant-loop-bin
 invariant-loop-bin l = record {
