@@ -9,4 +9,5 @@ pub mod RowBins
 pub mod Search
 pub mod Split
 pub mod Tile
+pub mod Union
 pub mod Unit
