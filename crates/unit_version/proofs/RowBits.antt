@@ -18,14 +18,6 @@ use Rattle.unit_version.specs.RowBins.{row_bin}
 use Rattle.unit_version.specs.Tile.{rows_in}
 use Rattle.unit_version.specs.Union.{bins_from, union_at, union_count}
 
--- what is read of one row more
-pub map-read : {X : Type 0} (f : Row → X) (table : List Row) (n : ℕ) (row : Row) → slice_get table n ≡ Some row
-    → map f (take n table) ++ f row ∷ [] ≡ map f (take (n + 1) table)
-map-read f table n row is =
-    let within : n < length table = slice_get_within table n row is in
-    sym (map_more f table n row within
-    ∙ ap (λ r. map f (take n table) ++ f r ∷ []) (get_or_from_slice_get table n row row is))
-
 -- a column has few bins
 pub few-bins : (column : Column) → bin_count column ≤ 255
 few-bins Ship = omega arith

@@ -97,15 +97,7 @@ AreFirstPages-more list page groups part are is = record {
       ];
 }
 
--- no list has a page more
-pub ArePushed-none : (of : ℕ → Stretch) (tile : List ℕ) (lists : List (List ℕ)) → ArePushed of tile 0 lists lists
-ArePushed-none of tile lists = record {
-  long = refl;
-  each = λ k low. absurd (omega arith);
-  rest = λ k from. refl;
-}
-
--- and one list more has
+-- one list more has a page more
 pub ArePushed-more : (of : ℕ → Stretch) (tile : List ℕ) (n : ℕ) (old new : List (List ℕ)) (part : List ℕ)
     → ArePushed of tile n old new → n < length old
     → ((bins : List ℕ) (page : ℕ) → HasPage bins page tile → IsPageOf (rows_in (of n) bins) page part)

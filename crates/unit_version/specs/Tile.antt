@@ -39,7 +39,7 @@ pub record AreFirstPages (list : List Bool) (pages : ℕ) (groups : List ℕ) : 
   pub long : length groups ≡ 128 * pages
   pub each : (k : ℕ) → k < 128 * pages → slice_index groups k ≡ group_at list k
 
--- each of the first so many lists, which are of some bins each, has one page more, that of the tile, and the others stay
+-- each of the first so many lists, which are of some bins each, has one page more, that of the tile; the others stay
 pub record ArePushed (of : ℕ → Stretch) (tile : List ℕ) (count : ℕ) (old new : List (List ℕ)) : Type 0 where
   pub long : length new ≡ length old
   pub each : (k : ℕ) → k < count → (bins : List ℕ) (page : ℕ) → HasPage bins page tile
@@ -48,7 +48,7 @@ pub record ArePushed (of : ℕ → Stretch) (tile : List ℕ) (count : ℕ) (old
   pub rest : (k : ℕ) → count ≤ k → slice_index_or new k [] ≡ slice_index_or old k []
 
 -- the lists from the first up to an end, which are of some bins each, with the first pages of the rows
-pub record AreWritten (bins : List ℕ) (of : ℕ → Stretch) (pages first after : ℕ) (lists : List (List ℕ)) : Type 0 where
-  pub long : first + length lists ≡ after
+pub record AreWritten (bins : List ℕ) (of : ℕ → Stretch) (pages first end : ℕ) (lists : List (List ℕ)) : Type 0 where
+  pub long : first + length lists ≡ end
   pub each : (k : ℕ) → k < length lists
       → AreFirstPages (rows_in (of (first + k)) bins) pages (slice_index_or lists k [])

@@ -49,7 +49,8 @@ returns c =
     let tile = with_items_is writer.tile c.fill.new.tile tile_long in
     let bins = with_items_is writer.bins c.push_bins.new.lists bins_long in
     let unions = with_items_is writer.unions c.push_unions.new.unions unions_long in
-    let bins_pushed : ArePushed one_bin c.fill.new.tile (length writer.bins.items) writer.bins.items c.push_bins.new.lists =
+    let bins_pushed : ArePushed one_bin c.fill.new.tile (length writer.bins.items) writer.bins.items
+    c.push_bins.new.lists =
     rw (c.deref.ensures.value ∙ tile, c.deref_mut-2.ensures.value) at c.in_ok-push_bins.ensures in
     let unions_pushed : ArePushed (union_at c.args.column) c.fill.new.tile (length writer.unions.items)
     writer.unions.items c.push_unions.new.unions =
