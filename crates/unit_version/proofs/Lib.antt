@@ -26,4 +26,5 @@ mod SplitRows
 mod Tiles
 mod TurnedLists
 mod TurnedRows
+mod Unions
 mod Written

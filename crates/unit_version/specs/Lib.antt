@@ -1,6 +1,7 @@
 pub mod Base
 pub mod BaseValue
 pub mod Changes
+pub mod Columns
 pub mod Content
 pub mod Entry
 pub mod Inverse
@@ -14,4 +15,5 @@ pub mod Span
 pub mod Split
 pub mod Tile
 pub mod Turned
+pub mod Union
 pub mod Unit

@@ -55,7 +55,7 @@ pub use base::Base;
 pub use changes::Changes;
 pub use content::Content;
 pub use cubit_base::Memory;
-pub use keys::Keys;
+pub use keys::{Keys, key_pages};
 pub use page::Page;
 pub use patch::{patched, patched_by};
 pub use unit::Unit;
