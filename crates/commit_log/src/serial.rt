@@ -29,7 +29,7 @@ impl Setup for Brand {
     ghost limits = { record { row_limit = 0; log_limit = 0; tries = 0 } };
 }
 
-/// A log of one caller, whose author is 0, at 44 bytes a delta.
+/// A log of one caller, whose author is 0, at 52 bytes a delta.
 #[derive(Drop)]
 pub struct SerialLog<S: Setup> {
     entries: Vec<StoredDelta>,

@@ -1,7 +1,7 @@
 use Rattle.std.proofs.Common.{◌≡◌, List, All, ap, subst, refl}
 use Rattle.std.proofs.lemmas.List.Elements.{All-map}
 use Rattle.cubit_base.specs.declared.delta.Delta.{Delta}
-use Rattle.commit_log.specs.Logged.{delta_of}
+use Rattle.commit_log.specs.StoredDelta.{delta_of}
 use Rattle.commit_log.specs.Serial.{SerialValue}
 use Rattle.commit_log.proofs.serial.SerialLogCommitLog.author.Goals as goal
 
