@@ -34,11 +34,6 @@ struct Delta {
     std::optional<Tuple> before, after;
 };
 
-struct Entry {
-    uint32_t seq, rows;
-    Delta delta;
-};
-
 struct Front {
     uint32_t len, rows, node;
 };
@@ -93,16 +88,16 @@ struct Log {
         return Outcome::Done;
     }
 
-    bool following(Cursor &cursor, const Front &to, Entry &entry)
+    /* The delta at the cursor in its place in memory, so that nothing is copied; its number is then the cursor's length. */
+    const Stored *following(Cursor &cursor, const Front &to)
     {
         if (cursor.len == to.len)
-            return false;
-        const Stored &stored = entries[cursor.len];
+            return nullptr;
+        const Stored *stored = &entries[cursor.len];
         cursor.len++;
         cursor.node = cursor.len;
         walked += walked != UINT64_MAX;
-        entry = { cursor.len, stored.rows, { 0, stored.row, stored.key, stored.before, stored.after } };
-        return true;
+        return stored;
     }
 
     /* Whether one of the orders of a block is this one. */
@@ -134,6 +129,16 @@ struct Log {
 
 /* ---- its callers */
 
+/* A tuple as a word, the way that pages of the index have it. */
+static uint64_t word_of(const std::optional<Tuple> &tuple)
+{
+    if (!tuple)
+        return 0;
+    return 1 | uint64_t(tuple->price) << 1 | uint64_t(tuple->day) << 28 | uint64_t(tuple->qty) << 40
+        | uint64_t(tuple->disc) << 46 | uint64_t(tuple->tax) << 50 | uint64_t(tuple->flag) << 54
+        | uint64_t(tuple->status) << 56;
+}
+
 static __attribute__((noinline)) std::optional<Front> filled(Log &log, uint32_t count)
 {
     Front at = log.whole();
@@ -150,13 +155,8 @@ static __attribute__((noinline)) uint64_t sum_of(Log &log, const Front &from, co
 {
     Cursor cursor = { from.len, from.node };
     uint64_t sum = 0;
-    Entry entry;
-    while (log.following(cursor, to, entry)) {
-        const Delta &delta = entry.delta;
-        sum += uint64_t(entry.seq) + delta.row + delta.key.order;
-        if (delta.after)
-            sum += uint64_t(delta.after->price) + delta.after->qty;
-    }
+    while (const Stored *delta = log.following(cursor, to))
+        sum += uint64_t(cursor.len) + delta->row + delta->key.order + word_of(delta->before) + word_of(delta->after);
     return sum;
 }
 

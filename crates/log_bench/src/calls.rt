@@ -88,13 +88,16 @@ pub(crate) fn sum_of<L: CommitLog, N: Ledger>(
 
 fn taken(entry: &Entry) -> u64 {
     let delta = &entry.delta;
-    let place = u64::from(entry.seq)
+    u64::from(entry.seq)
         .wrapping_add(u64::from(delta.row))
-        .wrapping_add(u64::from(delta.key.order));
-    match delta.after {
-        Some(tuple) => place
-            .wrapping_add(u64::from(tuple.price))
-            .wrapping_add(u64::from(tuple.qty)),
-        None => place,
+        .wrapping_add(u64::from(delta.key.order))
+        .wrapping_add(word_of(delta.before))
+        .wrapping_add(word_of(delta.after))
+}
+
+fn word_of(tuple: Option<Tuple>) -> u64 {
+    match tuple {
+        Some(tuple) => tuple.pack(),
+        None => 0,
     }
 }

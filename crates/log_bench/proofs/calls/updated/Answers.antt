@@ -1,6 +1,6 @@
-use Rattle.std.proofs.Common.{◌≡◌, List, Some, IsSome, take, slice_get, ap, ◌∙◌, inl, inr, refl, rules}
+use Rattle.std.proofs.Common.{List, Some, take, slice_get, ap, ◌∙◌, inl, inr, refl}
 use Rattle.cubit_base.specs.Table.{Row}
-use Rattle.cubit_base.specs.Delta.{IsUpdate, IsLawful}
+use Rattle.cubit_base.specs.Delta.{IsUpdate}
 use Rattle.cubit_base.specs.History.{after}
 use Rattle.cubit_base.specs.declared.delta.Delta.{Delta}
 use Rattle.log_bench.proofs.calls.updated.Goals as goal
