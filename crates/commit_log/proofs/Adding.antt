@@ -8,7 +8,8 @@ use Rattle.cubit_base.specs.declared.delta.Delta.{Delta}
 use Rattle.cubit_base.specs.declared.entry.Limits.{Limits}
 use Rattle.cubit_base.specs.History.{IsHistory, rows_after}
 use Rattle.commit_log.specs.Log.{Terms, IsLog}
-use Rattle.commit_log.specs.Logged.{Logged, delta_of, logged_of}
+use Rattle.commit_log.specs.declared.stored.StoredDelta.{StoredDelta}
+use Rattle.commit_log.specs.StoredDelta.{delta_of, stored_of}
 use Rattle.commit_log.specs.Serial.{deltas_of, IsSerial}
 
 slice-shorter : {A : Type 0} (xs ys : List A) (k : ℕ) (x : A) → k < length xs → slice_get (xs ++ ys) k ≡ Some x →
@@ -21,13 +22,13 @@ slice-last : {A : Type 0} (xs : List A) (y x : A) → slice_get (xs ++ y ∷ [])
 slice-last xs y x at =
     sym (get_or_at xs y [] x (length xs) refl) ∙ get_or_from_slice_get (xs ++ y ∷ []) (length xs) x x at
 
-module _ (terms : Terms) (entries : List Logged) (orders : List ℕ) (first now : ℕ) (limits : Limits)
+module _ (terms : Terms) (entries : List StoredDelta) (orders : List ℕ) (first now : ℕ) (limits : Limits)
     (s : IsSerial terms entries orders first now limits) (d : Delta) (rows : ℕ) (by : d.author ≡ 0)
     (room : length (deltas_of entries) < terms.limits.log_limit)
     (history : IsHistory terms.limits.row_limit terms.base (deltas_of entries ++ d ∷ []))
     (rows_now : rows ≡ rows_after terms.base (deltas_of entries ++ d ∷ [])) where
-  abbrev pub e : Logged
-  e = logged_of d rows
+  abbrev pub e : StoredDelta
+  e = stored_of d rows
 
   longer : deltas_of (entries ++ e ∷ []) ≡ deltas_of entries ++ d ∷ []
   longer =
@@ -40,8 +41,8 @@ module _ (terms : Terms) (entries : List Logged) (orders : List ℕ) (first now 
   one_more : length (deltas_of entries ++ d ∷ []) ≡ length (deltas_of entries) + 1
   one_more = length-append (deltas_of entries) (d ∷ [])
 
-  each : (place : ℕ) (x : Logged) → slice_get (entries ++ e ∷ []) place ≡ Some x →
-      x.rows_ever ≡ rows_after terms.base (take (place + 1) (deltas_of entries ++ d ∷ []))
+  each : (place : ℕ) (x : StoredDelta) → slice_get (entries ++ e ∷ []) place ≡ Some x →
+      x.rows ≡ rows_after terms.base (take (place + 1) (deltas_of entries ++ d ∷ []))
   each place x at = dite (dec_lt place (length entries))
       (λ lt. let l = as_long in
       s.rows place x (slice-shorter entries (e ∷ []) place x lt at)
@@ -52,7 +53,7 @@ module _ (terms : Terms) (entries : List Logged) (orders : List ℕ) (first now 
       let m = one_more in let a = as_long in
       let here : place ≡ length entries = omega arith in
       let is : e ≡ x = slice-last entries e x (subst (λ n. slice_get (entries ++ e ∷ []) n ≡ Some x) here at) in
-      sym (ap (λ (y : Logged). y.rows_ever) is) ∙ rows_now
+      sym (ap (λ (y : StoredDelta). y.rows) is) ∙ rows_now
       ∙ ap (rows_after terms.base) (sym (take_all (place + 1) (deltas_of entries ++ d ∷ []) (omega arith))))
 
   -- the entries with that of the delta
@@ -67,7 +68,7 @@ module _ (terms : Terms) (entries : List Logged) (orders : List ℕ) (first now 
         each place x at ∙ ap (λ (h : List Delta). rows_after terms.base (take (place + 1) h)) (sym longer);
     orders_are =
         ap (λ (x : List ℕ). x ++ d.key.order ∷ []) s.orders_are
-        ∙ sym (map-append (λ (x : Logged). x.key.order) entries (e ∷ []));
+        ∙ sym (map-append (λ (x : StoredDelta). x.key.order) entries (e ∷ []));
     first_is = s.first_is;
     now_is = rows_now ∙ ap (rows_after terms.base) (sym longer);
     limits_are = s.limits_are;

@@ -8,7 +8,8 @@ use Rattle.cubit_base.specs.declared.entry.Entry.{Entry}
 use Rattle.cubit_base.specs.declared.entry.Limits.{Limits}
 use Rattle.commit_log.specs.Column.{EndsWith}
 use Rattle.commit_log.specs.Log.{Terms, HasKey, HasNone, IsEntry, IsLast, IsLastPlace}
-use Rattle.commit_log.specs.Logged.{Logged, delta_of, logged_of}
+use Rattle.commit_log.specs.declared.stored.StoredDelta.{StoredDelta}
+use Rattle.commit_log.specs.StoredDelta.{delta_of, stored_of}
 use Rattle.commit_log.specs.Serial.{deltas_of, IsSerial}
 
 -- the only delta in its place
@@ -18,10 +19,10 @@ key-there log key place d at has =
     sym (ap (λ (x : Delta). x.key)
     (sym (get_or_from_slice_get log place has.0 d has.1) ∙ get_or_from_slice_get log place d d at)) ∙ has.2
 
-module _ (terms : Terms) (entries : List Logged) (orders : List ℕ) (first now : ℕ) (limits : Limits)
+module _ (terms : Terms) (entries : List StoredDelta) (orders : List ℕ) (first now : ℕ) (limits : Limits)
     (s : IsSerial terms entries orders first now limits) where
   -- the delta of a stored one
-  pub stored-delta : (place : ℕ) (e : Logged) → place < length entries → e ≡ get_or entries place e →
+  pub stored-delta : (place : ℕ) (e : StoredDelta) → place < length entries → e ≡ get_or entries place e →
       slice_get (deltas_of entries) place ≡ Some (delta_of e)
   stored-delta place e lt is =
       let l = length-map entries delta_of in
@@ -35,15 +36,15 @@ module _ (terms : Terms) (entries : List Logged) (orders : List ℕ) (first now 
       let l = length-map entries delta_of in
       let w = slice_get_within (deltas_of entries) place d at in
       let lt : place < length entries = omega arith in
-      let x : Logged = logged_of d 0 in
+      let x : StoredDelta = stored_of d 0 in
       let is : delta_of (get_or entries place x) ≡ d =
       sym (get_or-map delta_of entries place x d lt) ∙ get_or_from_slice_get (deltas_of entries) place d d at in
       ap (λ (os : List ℕ). get_or os place 0) s.orders_are
-      ∙ get_or-map (λ (e : Logged). e.key.order) entries place x 0 lt
+      ∙ get_or-map (λ (e : StoredDelta). e.key.order) entries place x 0 lt
       ∙ ap (λ (y : Delta). y.key.order) is
 
 -- behind the last of an order no delta has a key with this order
-pub none-behind : (terms : Terms) (entries : List Logged) (orders : List ℕ) (first now : ℕ) (limits : Limits)
+pub none-behind : (terms : Terms) (entries : List StoredDelta) (orders : List ℕ) (first now : ℕ) (limits : Limits)
     (s : IsSerial terms entries orders first now limits) (key : KeyValue) (order from to end : ℕ) → order ≡ key.order →
     EndsWith orders order from to end → HasNone (deltas_of entries) key end to
 none-behind terms entries orders first now limits s key order from to end e ends place d lo hi at is =

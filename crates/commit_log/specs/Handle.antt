@@ -97,6 +97,11 @@ Appends terms handle at delta later (Ok front) = Appended terms handle at delta 
 Appends terms handle at delta later (Err Full) = (at.len ≡ terms.limits.log_limit) × (later ≡ handle)
 Appends terms handle at delta later (Err (Late front)) = IsLate terms handle at later front
 
+-- the number of what stopped an append
+abbrev pub stop_number : AppendStop → ℕ
+stop_number Full = 1
+stop_number (Late front) = 2
+
 abbrev pub append_steps : Result Front AppendStop → ℕ
 append_steps (Ok front) = 12
 append_steps (Err Full) = 0

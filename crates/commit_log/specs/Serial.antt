@@ -9,7 +9,8 @@ use Rattle.commit_log.specs.Handle.{Handle}
 use Rattle.commit_log.specs.declared.front.Front.{Front}
 use Rattle.commit_log.specs.declared.front.AppendStop.{AppendStop}
 use Rattle.commit_log.specs.declared.front.AppendStop.TheVariants.{Full, Late}
-use Rattle.commit_log.specs.Logged.{Logged, delta_of}
+use Rattle.commit_log.specs.declared.stored.StoredDelta.{StoredDelta}
+use Rattle.commit_log.specs.StoredDelta.{delta_of}
 
 -- its deltas, how many more there may be, and how many entries its walks gave
 pub record SerialValue : Type 0 where
@@ -30,18 +31,18 @@ serial_handle log = record {
   looks = None;
 }
 
-abbrev pub deltas_of : List Logged → List Delta
+abbrev pub deltas_of : List StoredDelta → List Delta
 deltas_of entries = map delta_of entries
 
-abbrev pub orders_of : List Logged → List ℕ
+abbrev pub orders_of : List StoredDelta → List ℕ
 orders_of entries = map (λ e. e.key.order) entries
 
 -- the entries are those of a log, with their orders, the rows before it and after it, and the limits
-pub record IsSerial (terms : Terms) (entries : List Logged) (orders : List ℕ) (first now : ℕ) (limits : Limits)
+pub record IsSerial (terms : Terms) (entries : List StoredDelta) (orders : List ℕ) (first now : ℕ) (limits : Limits)
     : Type 0 where
   pub log : IsLog terms (deltas_of entries)
-  pub rows : (place : ℕ) (entry : Logged) → slice_get entries place ≡ Some entry →
-      entry.rows_ever ≡ rows_after terms.base (take (place + 1) (deltas_of entries))
+  pub rows : (place : ℕ) (entry : StoredDelta) → slice_get entries place ≡ Some entry →
+      entry.rows ≡ rows_after terms.base (take (place + 1) (deltas_of entries))
   pub orders_are : orders ≡ orders_of entries
   pub first_is : first ≡ length terms.base
   pub now_is : now ≡ rows_after terms.base (deltas_of entries)

@@ -1,19 +1,12 @@
--- What the 40 bytes of a stored delta stand for.
-use Rattle.cubit_base.specs.Key.{KeyValue, IsKey}
-use Rattle.commit_log.specs.Logged.{Logged}
-use Rattle.commit_log.specs.declared.stored.StoredDelta.TheInside.{Inside}
+-- Stored deltas.
+use Rattle.std.specs.Prelude.{ℕ}
+use Rattle.cubit_base.specs.declared.delta.Delta.{Delta}
+use Rattle.commit_log.specs.declared.stored.StoredDelta.{StoredDelta}
 
-abbrev pub stored_key : Inside → KeyValue
-stored_key s = record { order = s.order; line = s.line }
+-- the delta, whose author is the one of the log, with the number 0
+abbrev pub delta_of : StoredDelta → Delta
+delta_of s = record { author = 0; row = s.row; key = s.key; before = s.before; after = s.after }
 
-abbrev pub stored_delta : Inside → Logged
-stored_delta s = record {
-  row = s.row;
-  key = stored_key s;
-  before = s.before;
-  after = s.after;
-  rows_ever = s.rows;
-}
-
-abbrev pub IsStoredDelta : Inside → Type 0
-IsStoredDelta s = IsKey (stored_key s)
+-- a delta as it is stored, with the rows that there ever were after it
+abbrev pub stored_of : Delta → ℕ → StoredDelta
+stored_of d rows = record { before = d.before; after = d.after; key = d.key; row = d.row; rows = rows }

@@ -1,4 +1,6 @@
 //! Prefixes of a log, and places of a walk over it.
+ghost use Rattle.std.specs.Prelude.{◌≡◌};
+ghost use Rattle.commit_log.specs.Handle.{stop_number};
 
 /// A prefix of a log.
 #[derive(Clone, Copy, Debug, PartialEq, Eq)]
@@ -27,4 +29,16 @@ pub enum AppendStop {
     Full,
     /// Another delta stands behind the front; this one is all that was seen, and longer.
     Late(Front),
+}
+
+impl AppendStop {
+    /// Full 1, Late 2.
+    pub fn number(&self) -> u8
+        ensures { result ≡ stop_number self.now }
+    {
+        match self {
+            AppendStop::Full => 1,
+            AppendStop::Late(_) => 2,
+        }
+    }
 }

@@ -11,8 +11,8 @@
 //! - `CommitLog`, of every form: what was seen stays a prefix and is a lawful history within the limits (`IsLog`), and
 //!   each call says what it changes and how many steps it takes. `following` gives the entries up to a front in order,
 //!   `latest` the last one with a key, and `try_append` appends, or says that the log is full or a delta came before.
-//! - `SerialLog` meets it. Each delta in it has author 0, `front` and `meet` see nothing new, and `try_append` answers
-//!   Late exactly where the front is not all of it.
+//! - `SerialLog` meets it. Each delta in it has author 0, so each place is one of its author's, `front` and `meet` see
+//!   nothing new, and `try_append` answers Late exactly where the front is not all of it.
 //! - `laws`: what follows for prefixes, handles, appended deltas, and the deltas between two fronts.
 //!
 //! # Only tested

@@ -1,11 +1,12 @@
 //! A log of one caller, who keeps its deltas in order.
 ghost use Rattle.std.specs.Prelude.{◌≡◌, ◌+◌, ◌-◌, ◌≤◌, ◌<◌, List, [], ◌∷◌, ◌++◌, length, take, IfOk, IfSome, IfNone, IsTrue, ◌↔◌, OnErr, All, if◌then◌else◌};
+ghost use Rattle.std.specs.List.{range_with_len};
 ghost use Rattle.cubit_base.specs.Table.{Row};
 ghost use Rattle.cubit_base.specs.Delta.{is_insert, IsLawful};
 ghost use Rattle.cubit_base.specs.History.{after, LimitsFit};
 ghost use Rattle.cubit_base.specs.declared.entry.Limits.{Limits as LimitsValue};
 ghost use Rattle.commit_log.specs.Log.{IsLog, Stands, IsWhole, IsEntry, MayFollow, HasKey, HasNone, IsLastPlace};
-ghost use Rattle.commit_log.specs.Handle.{Begins, Appends, append_steps, RisesWithin};
+ghost use Rattle.commit_log.specs.Handle.{Begins, mine, Appends, append_steps, RisesWithin};
 ghost use Rattle.commit_log.specs.Serial.{SerialValue, is_late, serial_terms, serial_handle};
 
 use crate::orders::last_end;
@@ -29,7 +30,7 @@ impl Setup for Brand {
     ghost limits = { record { row_limit = 0; log_limit = 0; tries = 0 } };
 }
 
-/// A log of one caller, whose author is 0, at 44 bytes a delta.
+/// A log of one caller, whose author is 0, at 52 bytes a delta.
 #[derive(Drop)]
 pub struct SerialLog<S: Setup> {
     entries: Vec<StoredDelta>,
@@ -213,10 +214,11 @@ impl<S: Setup> CommitLog for SerialLog<S> {
         self.spare
     }
 
-    /// 0, which every delta here has.
+    /// 0, which every delta here has: each place is one of this author's.
     fn author(&self) -> u8
         ensures zero { result ≡ 0 }
         ensures own { All (λ d. d.author ≡ 0) self.now.seen }
+        ensures mine { mine (serial_handle self.now) ≡ range_with_len 0 (length self.now.seen) }
     {
         let _ = &self.entries;
         0

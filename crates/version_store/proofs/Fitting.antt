@@ -1,5 +1,5 @@
 -- A store of which one version was replaced.
-use Rattle.std.proofs.Common.{◌≡◌, ℕ, List, sym, ap, subst, ⊎_elim}
+use Rattle.std.proofs.Common.{◌≡◌, List, sym, ap, subst, ⊎_elim}
 use Rattle.std.proofs.lemmas.Bool.Decides.{eqb_tells}
 use Rattle.cubit_base.specs.declared.delta.Delta.{Delta}
 use Rattle.commit_log.specs.Log.{Terms}

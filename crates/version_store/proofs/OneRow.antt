@@ -1,5 +1,5 @@
 -- A table of one live row.
-use Rattle.std.proofs.Common.{◌≡◌, ℕ, List, [], ◌∷◌, Bool, true, length, map, slice_get, Some, ap, ◌∙◌, sym, refl, arith}
+use Rattle.std.proofs.Common.{◌≡◌, List, [], ◌∷◌, true, length, map, slice_get, Some, ap, ◌∙◌, arith}
 use Rattle.std.proofs.lemmas.Option.{get_or_from_slice_get}
 use Rattle.cubit_base.specs.Table.{Row}
 use Rattle.unit_version.specs.Content.{is_live}

@@ -2,7 +2,6 @@
 use Rattle.std.proofs.Common.{◌≡◌, ℕ, ◌-◌, sym, refl, ap, ◌∙◌, arith}
 use Rattle.std.proofs.lemmas.Grind.{common_steps}
 use Rattle.std.specs.Prelude.{nat_lt, if◌then◌else◌}
-use Rattle.column_bins.specs.declared.column.Column.{Column}
 use Rattle.column_bins.specs.declared.column.Column.TheVariants.{Ship, Disc, Qty, Flag, Status}
 use Rattle.unit_version.specs.Unit.{IsUnit}
 use Rattle.unit_version.specs.declared.unit.Unit.{Unit as IndexUnit}

@@ -1,5 +1,5 @@
 -- What a longer log keeps.
-use Rattle.std.proofs.Common.{◌≡◌, ℕ, ◌≤◌, List, length, take, Option, Some, None, ap, sym, ◌∙◌, arith, length-append}
+use Rattle.std.proofs.Common.{◌≡◌, List, length, take, Option, Some, None, ap, sym, ◌∙◌, arith, length-append}
 use Rattle.std.proofs.lemmas.List.{take-append-le}
 use Rattle.cubit_base.specs.History.{after, rows_after}
 use Rattle.cubit_base.specs.declared.delta.Delta.{Delta}

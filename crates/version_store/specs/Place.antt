@@ -1,5 +1,5 @@
 -- The places of units in a list of what there is for each.
-use Rattle.std.specs.Prelude.{ℕ, ◌+◌, ◌-◌, nat_lt, if◌then◌else◌}
+use Rattle.std.specs.Prelude.{ℕ, ◌+◌}
 use Rattle.column_bins.specs.declared.column.Column.{Column}
 use Rattle.column_bins.specs.declared.column.Column.TheVariants.{Ship, Disc, Qty, Flag, Status}
 use Rattle.unit_version.specs.declared.unit.Unit.{Unit as IndexUnit}

@@ -115,6 +115,11 @@ pub record IsNewer (terms : Terms) (store : Store) (unit : IndexUnit) (front : F
   pub told : later.told ≡ store.told
   pub stands : Stands terms seen newer
 
+-- the number of what stopped a replacement
+abbrev pub stop_number : ReplaceStop → ℕ
+stop_number Busy = 1
+stop_number (Newer front) = 2
+
 -- what a replacement by a front and content comes to; where it is none the content comes back
 abbrev pub Replaces : Terms → Handle → Store → IndexUnit → Front → Content → Handle → Store →
     Result (Unit {0}) (Content × ReplaceStop) → Type 0

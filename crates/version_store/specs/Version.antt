@@ -1,5 +1,5 @@
 -- Versions of units.
-use Rattle.std.specs.Prelude.{◌≡◌, ℕ, List, length, take, [], Option, Some, None}
+use Rattle.std.specs.Prelude.{◌≡◌, List, length, take, [], Option, Some, None}
 use Rattle.cubit_base.specs.History.{after}
 use Rattle.cubit_base.specs.declared.delta.Delta.{Delta}
 use Rattle.commit_log.specs.Log.{Terms, Stands}

@@ -1,15 +1,17 @@
 //! What follows from the contracts of a store, for the layers above. These functions do nothing: where one is called,
 //! its clauses are known.
-ghost use Rattle.std.specs.Prelude.{◌≡◌, ℕ, ◌+◌, List, take};
+ghost use Rattle.std.specs.Prelude.{◌≡◌, ℕ, ◌+◌, ◌≤◌, List, take};
 ghost use Rattle.std.specs.Option.{unwrap_or};
 ghost use Rattle.cubit_base.specs.History.{after};
 ghost use Rattle.cubit_base.specs.declared.delta.Delta.{Delta};
 ghost use Rattle.commit_log.specs.Log.{Terms};
-ghost use Rattle.commit_log.specs.Handle.{Begins};
+ghost use Rattle.commit_log.specs.Handle.{Handle, Begins};
+ghost use Rattle.commit_log.specs.declared.front.Front.{Front};
 ghost use Rattle.unit_version.specs.Content.{content_of};
 ghost use Rattle.unit_version.specs.declared.unit.Unit.{Unit};
 ghost use Rattle.version_store.specs.Version.{Version, Fits};
-ghost use Rattle.version_store.specs.Store.{RoseBy};
+ghost use Rattle.version_store.specs.Store.{Store, RoseBy, GivesUp, IsBusy};
+ghost use Rattle.version_store.specs.declared.store.Again.{Again};
 
 /// Versions that fit.
 pub fn versions()
@@ -25,4 +27,12 @@ pub fn versions()
 pub fn losses()
     ensures { (some more before between now : ℕ) → RoseBy some before between → RoseBy more between now →
         RoseBy (some + more) before now }
+{}
+
+/// A handle that loses no turn, as that of a `MemoryStore`, gives up no hold and finds no version busy.
+pub fn no_losses()
+    ensures held { (tries : ℕ) (store later : Store) (again : Again) → 1 ≤ tries → store.losses ≡ 0 →
+        later.losses ≡ 0 → GivesUp tries store later again → ⊥ }
+    ensures free { (handle same : Handle) (store later : Store) (unit : Unit) (front : Front) → store.losses ≡ 0 →
+        later.losses ≡ 0 → IsBusy handle store unit front same later → ⊥ }
 {}

@@ -13,8 +13,10 @@
 //!   (`Replaces`). What a claim shows stays. Of the log's handle only what it has seen changes. `IsStanding` is what
 //!   the layers above ask of a store, its log and the base.
 //! - `MemoryStore` meets it, tells everything and loses no turn, so it never answers Again or Busy.
-//! - `LosingStore`, for tests, meets it and loses exactly the calls that it is told to lose.
-//! - `laws`: what a version that fits shows, that it fits on when more is seen, and that losses add up.
+//! - `LosingStore`, for tests, meets it and loses exactly the calls that it is told to lose: a hold all its tries, and
+//!   a replacement one turn.
+//! - `laws`: what a version that fits shows, that it fits on when more is seen, that losses add up, and that where no
+//!   turn is lost no hold is given up and no version is busy.
 //!
 //! # Only tested
 //!

@@ -1,16 +1,16 @@
 //! A store for tests, which loses turns where it is told to, as a store that is shared may at any time.
-ghost use Rattle.std.specs.Prelude.{◌≡◌, ◌+◌, ◌*◌, ◌<◌, ◌≤◌, ◌↔◌, [], take, IfOk, IsErr, IsTrue};
+ghost use Rattle.std.specs.Prelude.{◌≡◌, ◌+◌, ◌*◌, ◌<◌, ◌≤◌, ◌↔◌, [], ◌-◌, take, IfOk, IfErr, IsErr, IsTrue};
 ghost use Rattle.wah_words.specs.Place.{page_count};
 ghost use Rattle.cubit_base.specs.History.{after};
 ghost use Rattle.commit_log.specs.Log.{Stands};
-ghost use Rattle.commit_log.specs.Serial.{serial_terms, serial_handle};
+ghost use Rattle.commit_log.specs.Serial.{SerialValue, serial_terms, serial_handle};
 ghost use Rattle.commit_log.specs.Handle.{SeesMore};
 ghost use Rattle.unit_version.specs.Content.{content_of};
 ghost use Rattle.unit_version.specs.Unit.{IsUnit};
 ghost use Rattle.version_store.specs.Version.{base_version};
 ghost use Rattle.version_store.specs.Store.{IsStanding, Asks, Holds, KeepsClaims, Keeps, Replaces};
 ghost use Rattle.version_store.specs.Memory.{AreVersions, IsNew, IsGiven, shown_by};
-ghost use Rattle.version_store.specs.Losing.{LosingValue, losing_store, IsNextLost, with_call, IsLost, IsBusyStop};
+ghost use Rattle.version_store.specs.Losing.{LosingValue, losing_store, IsNextLost, with_call, hold_losses, replace_losses, IsLost, IsBusyStop};
 
 use crate::{Again, Memory, MemoryClaim, MemoryStore, ReplaceStop, VersionStore};
 use commit_log::{Front, SerialLog, Setup};
@@ -146,7 +146,12 @@ impl<S: Setup> VersionStore for LosingStore<S> {
             (IsGiven self.new.memory) (shown_by self.new.memory) (losing_store self.old) (losing_store self.new)
             result }
         ensures lost { IsErr result ↔ IsNextLost self.old.holds }
-        ensures count { self.new.holds ≡ with_call self.old.holds }
+        ensures again { IfErr result (λ again. again ≡ record { lost = tries }) }
+        ensures is { self.new ≡ record self.old {
+          memory = self.new.memory;
+          losses = hold_losses tries self.old.losses result;
+          holds = with_call self.old.holds;
+        } }
         ensures asks { Asks unit (losing_store self.old) (losing_store self.new) }
         ensures claims { KeepsClaims (IsGiven self.old.memory) (IsGiven self.new.memory)
             (shown_by self.old.memory) (shown_by self.new.memory) }
@@ -172,7 +177,17 @@ impl<S: Setup> VersionStore for LosingStore<S> {
         self.memory.content(claim)
     }
 
-    fn leave(&mut self, claim: MemoryClaim) {
+    fn leave(&mut self, claim: MemoryClaim)
+        requires gave { IsGiven self.old.memory claim }
+        requires lent { 1 ≤ self.old.memory.lent }
+        ensures store { losing_store self.new
+            ≡ record (losing_store self.old) { lent = self.old.memory.lent - 1 } }
+        ensures is { self.new ≡ record self.old { memory = self.new.memory } }
+        ensures claims { KeepsClaims (IsGiven self.old.memory) (IsGiven self.new.memory)
+            (shown_by self.old.memory) (shown_by self.new.memory) }
+        ensures over { (log : SerialValue) → AreVersions (serial_terms S.base S.limits) self.old.memory log.seen →
+            AreVersions (serial_terms S.base S.limits) self.new.memory log.seen }
+    {
         self.memory.leave(claim);
     }
 
@@ -192,7 +207,11 @@ impl<S: Setup> VersionStore for LosingStore<S> {
         ensures replace { Replaces (serial_terms S.base S.limits) (serial_handle log.old) (losing_store self.old) unit
             front.now content (serial_handle log.new) (losing_store self.new) result }
         ensures busy { IsBusyStop result ↔ IsLost self.old unit front.now }
-        ensures count { self.new.replacements ≡ with_call self.old.replacements }
+        ensures is { self.new ≡ record self.old {
+          memory = self.new.memory;
+          losses = replace_losses self.old.losses result;
+          replacements = with_call self.old.replacements;
+        } }
         ensures keeps { Keeps (losing_store self.old) (losing_store self.new) }
         ensures more { SeesMore (serial_handle log.old) (serial_handle log.new) }
         ensures over { AreVersions (serial_terms S.base S.limits) self.new.memory log.new.seen }

@@ -7,7 +7,7 @@ ghost use Rattle.commit_log.specs.Handle.{Grows, SeesMore};
 ghost use Rattle.unit_version.specs.Content.{content_of};
 ghost use Rattle.unit_version.specs.Unit.{IsUnit};
 ghost use Rattle.version_store.specs.Version.{Version};
-ghost use Rattle.version_store.specs.Store.{Store, Asks, Holds, KeepsClaims, Keeps, Replaces};
+ghost use Rattle.version_store.specs.Store.{Store, Asks, Holds, KeepsClaims, Keeps, Replaces, stop_number};
 
 use commit_log::{CommitLog, Front};
 use cubit_base::Steps;
@@ -28,6 +28,18 @@ pub enum ReplaceStop {
     Busy,
     /// It is newer than what was to replace it; this is its front.
     Newer(Front),
+}
+
+impl ReplaceStop {
+    /// Busy 1, Newer 2.
+    pub fn number(&self) -> u8
+        ensures { result ≡ stop_number self.now }
+    {
+        match self {
+            ReplaceStop::Busy => 1,
+            ReplaceStop::Newer(_) => 2,
+        }
+    }
 }
 
 /// A store of a version for each unit, as one of its callers sees it. No call takes memory.

@@ -3,7 +3,8 @@ use Rattle.cubit_base.specs.declared.delta.Delta.{Delta}
 use Rattle.cubit_base.specs.Table.{Row}
 use Rattle.cubit_base.specs.Delta.{applied, IsLawful}
 use Rattle.cubit_base.specs.History.{after, rows_after}
-use Rattle.commit_log.specs.Logged.{Logged, logged_of}
+use Rattle.commit_log.specs.declared.stored.StoredDelta.{StoredDelta}
+use Rattle.commit_log.specs.StoredDelta.{stored_of}
 use Rattle.commit_log.specs.Serial.{SerialValue, serial_terms, deltas_of, IsSerial}
 use Rattle.commit_log.proofs.Adding.{serial-snoc}
 use Rattle.commit_log.proofs.serial.SerialLog.add.Goals as goal
@@ -32,15 +33,15 @@ invariant_of-self g c =
     let now : rows ≡ rows_after base (h ++ d ∷ []) =
     ap (λ n. n + added) s.now_is ∙ sym count
     ∙ sym (ap (λ (t : List Row). length t) (c.histories.ensures.join base h (d ∷ []))) in
-    let entries : c.push_reserved-2.new.self.items ≡ v.entries.items ++ logged_of d rows ∷ [] =
-    ◌∙◌ {A = List Logged} c.push_reserved-2.ensures.items
-    (ap (λ (x : Logged). v.entries.items ++ x ∷ []) c.new-stored.ensures) in
+    let entries : c.push_reserved-2.new.self.items ≡ v.entries.items ++ stored_of d rows ∷ [] =
+    ◌∙◌ {A = List StoredDelta} c.push_reserved-2.ensures.items
+    (ap (λ (x : StoredDelta). v.entries.items ++ x ∷ []) c.new-stored.ensures) in
     let order : c.order.result ≡ d.key.order =
-    c.order.ensures ∙ ap (λ (x : Logged). x.key.order) c.new-stored.ensures in
+    c.order.ensures ∙ ap (λ (x : StoredDelta). x.key.order) c.new-stored.ensures in
     let orders : c.push_reserved.new.self.items ≡ v.orders.items ++ d.key.order ∷ [] =
     ◌∙◌ {A = List ℕ} c.push_reserved.ensures.items (ap (λ n. v.orders.items ++ n ∷ []) order) in
     let serial =
-    subst (λ (x : List Logged × List ℕ). IsSerial terms x.0 x.1 v.base_rows rows v.limits)
+    subst (λ (x : List StoredDelta × List ℕ). IsSerial terms x.0 x.1 v.base_rows rows v.limits)
     (λ i. (sym entries i, sym orders i))
     (serial-snoc terms v.entries.items v.orders.items v.base_rows v.rows v.limits s d rows c.requires.author room
     history now) in

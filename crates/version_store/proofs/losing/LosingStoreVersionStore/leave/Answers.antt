@@ -1,4 +1,4 @@
-use Rattle.std.proofs.Common.{◌≡◌, subst, sym}
+use Rattle.std.proofs.Common.{subst, sym}
 use Rattle.commit_log.specs.Serial.{serial_terms}
 use Rattle.version_store.specs.Losing.{LosingValue}
 use Rattle.version_store.specs.Memory.{AreVersions}

@@ -1,4 +1,4 @@
-use Rattle.std.proofs.Common.{◌≡◌, Some, ap}
+use Rattle.std.proofs.Common.{Some, ap}
 use Rattle.commit_log.specs.Serial.{serial_terms}
 use Rattle.version_store.specs.Memory.{MemoryValue}
 use Rattle.version_store.specs.Version.{Version}
