@@ -1,5 +1,6 @@
 -- What a base keeps.
 use Rattle.std.specs.Prelude.{◌≡◌, ◌≤◌, length}
+use Rattle.cubit_base.specs.LiveRow.{HasDistinctLiveKeys}
 use Rattle.column_bins.specs.declared.column.Column.TheVariants.{Ship, Disc, Qty, Flag, Status}
 use Rattle.column_bins.specs.Column.{bin_count}
 use Rattle.wah_words.specs.Place.{page_count}
@@ -11,6 +12,7 @@ use Rattle.unit_version.specs.Content.{content_of, AreContents}
 pub record IsBase (b : Inside) : Type 0 where
   pub rows_are : b.rows ≡ length b.table.value
   pub limit : b.row_room ≤ 16_777_216
+  pub keys_differ : HasDistinctLiveKeys b.table.value
   pub live_is : b.live ≡ content_of unit.Live b.table.value
   pub ship_are : AreContents (unit.Bin Ship) b.table.value (bin_count Ship) b.ship.items
   pub disc_are : AreContents (unit.Bin Disc) b.table.value (bin_count Disc) b.disc.items

@@ -1,0 +1,4 @@
+pub mod Carried
+pub mod ChangeLaws
+pub mod Deciding
+pub mod Others
