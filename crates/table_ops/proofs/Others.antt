@@ -6,7 +6,7 @@ use Rattle.std.proofs.lemmas.List.{length-map, append_assoc}
 use Rattle.std.proofs.lemmas.List.Elements.{filter-append}
 use Rattle.std.proofs.lemmas.List.Filters.{length-filter_both}
 use Rattle.cubit_base.specs.declared.delta.Delta.{Delta}
-use Rattle.commit_log.specs.Handle.{Handle, Begins, places_by, mine}
+use Rattle.commit_log.specs.Handle.{Handle, Begins, Grows, places_by, mine}
 use Rattle.table_ops.specs.Changed.{ReadsOn, others}
 
 abbrev is_own : ℕ → Delta → Bool
@@ -71,4 +71,20 @@ others-more handle read later first then =
                 ∙ length-append (filter other first.0) (filter other then.0) in
     let before = others-since handle read first.0 first.1 in
     let now = others-since handle later (first.0 ++ then.0) joined in
+    omega (arith, parts, before, now)
+
+-- from later on there are no more of them
+pub others-fewer : (handle read later : Handle) → Grows handle read → Grows read later →
+    others read later ≤ others handle later
+others-fewer handle read later first then =
+    let other = is_other handle.author in
+    let rest = first.begins.0 in
+    let more = then.begins.0 in
+    let joined = then.begins.1 ∙ ap (λ (l : List Delta). l ++ more) first.begins.1
+                 ∙ append_assoc handle.seen rest more in
+    let parts = ap (λ (l : List Delta). length l) (filter-append other rest more)
+                ∙ length-append (filter other rest) (filter other more) in
+    let before = others-since read later more then.begins.1
+                 ∙ ap (λ author. length (filter (is_other author) more)) first.author in
+    let now = others-since handle later (rest ++ more) joined in
     omega (arith, parts, before, now)

@@ -19,6 +19,8 @@ pub fn reads()
     // All that it reads on by is of other authors.
     ensures others { (handle later : Handle) → ReadsOn handle later →
         length later.seen ≡ length handle.seen + others handle later }
+    ensures fewer { (handle read later : Handle) → Grows handle read → Grows read later →
+        others read later ≤ others handle later }
 {}
 
 /// Changes.

@@ -8,6 +8,7 @@ ghost use Rattle.table_ops.specs.Found.{IsFound, page_of, known_length, lookup_s
 ghost use Rattle.table_ops.specs.Changed.{change_of, IsChanged, change_steps, others};
 
 use crate::change::Asked;
+use crate::laws::{changes, reads};
 use crate::live::found_since;
 use crate::settle::{Found, settle};
 use crate::{OpStop, Placed};
@@ -33,6 +34,8 @@ pub fn lookup<S: VersionStore, N: Ledger>(
     ensures more { SeesMore (with_look (S.Log.handle log.old)) (S.Log.handle log.new) }
     ensures asks { Asks (page_of key.now) (S.store store.old) (S.store store.new) }
     ensures standing { IsStanding S.Log.terms (S.store store.new) base.now (S.over store.new log.new) }
+    ensures known { known_length (S.store store.old) (S.store store.new) (page_of key.now)
+        ≤ length (S.Log.handle log.new).seen }
     ensures steps { RisesWithin (lookup_steps tries
         (known_length (S.store store.old) (S.store store.new) (page_of key.now))
         (length (S.Log.handle log.new).seen)) steps.old steps.new }
@@ -147,6 +150,9 @@ fn change<S: VersionStore, N: Ledger>(
         (known_length (S.store store.old) (S.store store.new) (page_of (key_of (change_of asked.now))))
         (S.Log.handle log.old) (S.Log.handle log.new)) steps.old steps.new }
 {
+    changes();
+    reads();
+    commit_log::laws::handles();
     base.keys_differ();
     let key = asked.key();
     let (front, live) = lookup(log, store, base, &key, tries, steps);

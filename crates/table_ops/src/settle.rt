@@ -38,7 +38,6 @@ pub(crate) fn settle<L: CommitLog, N: Ledger>(
     found: &Found,
     steps: &mut Steps<N>,
 ) -> Result<Placed, OpStop>
-    requires log { IsLog L.terms (L.handle log.old).seen }
     requires found { IsFound L.terms (L.handle log.old).seen (key_of (change_of asked.now))
         (found.now.front, found.now.live) }
     requires keys { HasDistinctLiveKeys L.terms.base }
@@ -50,6 +49,8 @@ pub(crate) fn settle<L: CommitLog, N: Ledger>(
     changes();
     reads();
     commit_log::laws::prefixes();
+    // From here on it is known that what was seen is a log.
+    log.start();
     let key = asked.key();
     let mut found = *found;
     loop {
