@@ -23,7 +23,7 @@ pub outcome-there : (terms : Terms) (seen : List Delta) (front : Front) (live : 
 outcome-there terms seen front live limits author own change decided found same_limits same_author at =
     let table = after terms.base seen in
     let rows = found.whole.stands.rows
-               ∙ ap (rows_after terms.base) (take_all front.len seen (omega (arith, found.whole.whole))) in
+    ∙ ap (rows_after terms.base) (take_all front.len seen (omega (arith, found.whole.whole))) in
     ap (λ (l : Limits). outcome l.row_limit l.log_limit table (length seen) own change) (sym same_limits)
     ∙ ap (λ n. outcome limits.row_limit limits.log_limit table n own change) (sym found.whole.whole)
     ∙ ap (λ a. outcome limits.row_limit limits.log_limit table front.len a change) (sym same_author)

@@ -16,7 +16,7 @@ abbrev is_other : ℕ → Delta → Bool
 is_other author d = not (d.author == author)
 
 one-more : (own : Bool) (n : ℕ) (d : Delta) (placed : List (ℕ × Delta)) (deltas : List Delta) →
-    length placed ≡ length deltas → 
+    length placed ≡ length deltas →
     length (cond own ((n, d) ∷ placed) placed) ≡ length (cond own (d ∷ deltas) deltas)
 one-more true n d placed deltas e = ap suc e
 one-more false n d placed deltas e = e
@@ -37,7 +37,7 @@ all-others : (author : ℕ) (log rest : List Delta) → places_by author (log ++
     length (filter (is_other author) rest) ≡ length rest
 all-others author log rest same =
     let parts = ap (λ (l : List Delta). length l) (filter-append (is_own author) log rest)
-                ∙ length-append (filter (is_own author) log) (filter (is_own author) rest) in
+    ∙ length-append (filter (is_own author) log) (filter (is_own author) rest) in
     let counts = sym (count-mine author (log ++ rest)) ∙ ap (λ (l : List ℕ). length l) same ∙ count-mine author log in
     let both = length-filter_both (is_own author) (is_other author) (λ d. refl) rest in
     omega (arith, parts, counts, both)
@@ -54,7 +54,7 @@ others-read handle later reads =
     let rest = reads.begins.0 in
     let author : later.author ≡ handle.author = ap (λ (h : Handle). h.author) reads.is in
     let same = ap (places_by handle.author) (sym reads.begins.1)
-               ∙ ap (λ a. places_by a later.seen) (sym author) ∙ reads.mine in
+    ∙ ap (λ a. places_by a later.seen) (sym author) ∙ reads.mine in
     let long = ap (λ (l : List Delta). length l) reads.begins.1 ∙ length-append handle.seen rest in
     let all = all-others handle.author handle.seen rest same in
     let since = others-since handle later rest reads.begins.1 in
@@ -68,7 +68,7 @@ others-more handle read later first then =
     let is = then.1 ∙ ap (λ (l : List Delta). l ++ then.0) first.1 in
     let joined = is ∙ append_assoc handle.seen first.0 then.0 in
     let parts = ap (λ (l : List Delta). length l) (filter-append other first.0 then.0)
-                ∙ length-append (filter other first.0) (filter other then.0) in
+    ∙ length-append (filter other first.0) (filter other then.0) in
     let before = others-since handle read first.0 first.1 in
     let now = others-since handle later (first.0 ++ then.0) joined in
     omega (arith, parts, before, now)
@@ -81,10 +81,10 @@ others-fewer handle read later first then =
     let rest = first.begins.0 in
     let more = then.begins.0 in
     let joined = then.begins.1 ∙ ap (λ (l : List Delta). l ++ more) first.begins.1
-                 ∙ append_assoc handle.seen rest more in
+    ∙ append_assoc handle.seen rest more in
     let parts = ap (λ (l : List Delta). length l) (filter-append other rest more)
-                ∙ length-append (filter other rest) (filter other more) in
+    ∙ length-append (filter other rest) (filter other more) in
     let before = others-since read later more then.begins.1
-                 ∙ ap (λ author. length (filter (is_other author) more)) first.author in
+    ∙ ap (λ author. length (filter (is_other author) more)) first.author in
     let now = others-since handle later (rest ++ more) joined in
     omega (arith, parts, before, now)

@@ -84,7 +84,7 @@ fn live_rows()
         IsLog terms log → HasDistinctLiveKeys terms.base → IsEntry terms log place entry →
         live_row (after terms.base (take (place + 1) log)) key
         ≡ (if same_key entry.delta.key key then option_map (λ tuple. (entry.delta.row, tuple)) entry.delta.after
-           else live_row (after terms.base (take place log)) key) }
+        else live_row (after terms.base (take place log)) key) }
 {
     commit_log::laws::stretches();
     laws::histories();
@@ -103,11 +103,7 @@ fn live_row_since(last: Option<Entry>, page: &Content, key: &Key) -> Option<(u32
 }
 
 // The key's live row behind a delta, from that before it.
-fn live_row_behind(
-    delta: &Delta,
-    key: &Key,
-    before: Option<(u32, Tuple)>,
-) -> Option<(u32, Tuple)>
+fn live_row_behind(delta: &Delta, key: &Key, before: Option<(u32, Tuple)>) -> Option<(u32, Tuple)>
     ensures { result ≡ (if same_key delta.now.key key.now
         then option_map (λ tuple. (delta.now.row, tuple)) delta.now.after else before) }
 {

@@ -158,4 +158,3 @@ fn change<S: VersionStore, N: Ledger>(
     let (front, live) = lookup(log, store, base, &key, tries, steps);
     settle(log, asked, &Found { front, live }, steps)
 }
-

@@ -23,7 +23,7 @@ loop-entry-preserved g c =
     let seen : now.seen ≡ before.seen = ap (λ h. h.seen) walk.walked in
     let live_at : ℕ → List Delta → Option (ℕ × TupleValue) = λ n log. live_row (after terms.base (take n log)) key in
     let by_last : Option (ℕ × TupleValue) → Option (ℕ × TupleValue) =
-        λ b. if same_key delta.key key then option_map (λ tuple. (delta.row, tuple)) delta.after else b in
+    λ b. if same_key delta.key key then option_map (λ tuple. (delta.row, tuple)) delta.after else b in
     record {
       first = omega (arith, inv.first, walk.moved);
       within = omega (arith, walk.before, walk.moved);
@@ -31,11 +31,11 @@ loop-entry-preserved g c =
       place = subst (λ log. IsPlace terms log next) (sym seen) walk.is_place;
       to = subst (λ log. Stands terms log c.args.to.now) (sym seen) inv.to;
       live = ap (live_at next.len) seen
-             ∙ ap (λ n. live_at n before.seen) walk.moved
-             ∙ c.live_rows.ensures.next terms before.seen key c.loop-entry.cursor.len c.in-Some.entry inv.log
-               c.requires.keys walk.is_entry
-             ∙ ap by_last inv.live
-             ∙ sym c.live_row_behind-live.ensures;
+          ∙ ap (λ n. live_at n before.seen) walk.moved
+          ∙ c.live_rows.ensures.next terms before.seen key c.loop-entry.cursor.len c.in-Some.entry inv.log
+          c.requires.keys walk.is_entry
+          ∙ ap by_last inv.live
+          ∙ sym c.live_row_behind-live.ensures;
       seen = seen ∙ inv.seen;
       reads = c.reads.ensures.walk first before now inv.reads walk.walked;
       steps = omega (arith, c.in-Some.ensures.steps, inv.steps, walk.moved, inv.first);

@@ -23,9 +23,9 @@ returns-clause-found g c =
     let live_at : List Delta → Option (ℕ × TupleValue) = λ log. live_row (after terms.base log) key in
     let by_last : Option (ℕ × TupleValue) → Option (ℕ × TupleValue) = λ before. live_row_by_last (option_map (λ e. e.delta) c.latest-last.result) before in
     let live = ap live_at (sym (take_all front.len now (omega (arith, whole.whole))))
-               ∙ c.live_rows.ensures.latest terms now key from front.len c.latest-last.result c.front-front.ensures.log
-                 c.requires.keys order whole.stands.within c.latest-last.ensures.latest
-               ∙ ap by_last (ap live_at (c.prefixes.ensures.kept seen now from begins c.requires.from.within))
-               ∙ c.live_row_since.ensures (after terms.base (take from seen)) c.requires.page in
+    ∙ c.live_rows.ensures.latest terms now key from front.len c.latest-last.result c.front-front.ensures.log
+    c.requires.keys order whole.stands.within c.latest-last.ensures.latest
+    ∙ ap by_last (ap live_at (c.prefixes.ensures.kept seen now from begins c.requires.from.within))
+    ∙ c.live_row_since.ensures (after terms.base (take from seen)) c.requires.page in
     subst (λ handle. IsFound terms handle.seen key (front, c.live_row_since.result)) (sym c.latest-last.ensures.same)
     (record { whole = whole; live = live })
