@@ -1,5 +1,6 @@
 pub mod Adding
 pub mod Appending
 pub mod Columns
+pub mod Others
 pub mod Searching
 pub mod Stretches

@@ -4,11 +4,10 @@ use Rattle.std.proofs.lemmas.List.{append_assoc}
 use Rattle.cubit_base.specs.Change.{Change}
 use Rattle.cubit_base.specs.declared.delta.Delta.{Delta}
 use Rattle.commit_log.specs.Log.{Terms}
-use Rattle.commit_log.specs.Handle.{Handle, Begins, Grows, mine}
+use Rattle.commit_log.specs.Handle.{Handle, Begins, Grows, ReadsOn}
 use Rattle.table_ops.specs.declared.outcome.Placed.{Placed}
 use Rattle.table_ops.specs.declared.outcome.OpStop.{OpStop}
-use Rattle.table_ops.specs.Changed.{ReadsOn, IsChanged, IsPlaced, IsStopped, outcome_after, others}
-use Rattle.table_ops.proofs.Others.{others-read, others-more}
+use Rattle.table_ops.specs.Changed.{IsChanged, outcome_after}
 
 begins-on : (log longer last : List Delta) → Begins log longer → Begins longer last → Begins log last
 begins-on log longer last first then =
@@ -55,11 +54,3 @@ change-on terms handle read later change (Err stop) reads is = record {
   outcome_is = ap (λ author. outcome_after terms later.seen author change) (sym (author-read handle read reads))
       ∙ is.outcome_is;
 }
-
-pub change-others : (terms : Terms) (handle read later : Handle) (change : Change) (result : Result Placed OpStop) →
-    ReadsOn handle read → IsChanged terms read change later result →
-    length read.seen ≤ length handle.seen + others handle later
-change-others terms handle read later change result reads is =
-    let so_far = others-read handle read reads in
-    let more = others-more handle read later reads.begins (change-grows terms read later change result is).begins in
-    omega (arith, so_far, more)

@@ -1,4 +1,3 @@
 pub mod Carried
 pub mod ChangeLaws
 pub mod Deciding
-pub mod Others

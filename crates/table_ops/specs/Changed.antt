@@ -1,10 +1,10 @@
 -- Changes that are decided at one front.
-use Rattle.std.specs.Prelude.{◌≡◌, ℕ, ◌+◌, ◌-◌, ◌*◌, ◌==◌, Bool, not, List, length, drop, filter, Result, Ok, Err}
+use Rattle.std.specs.Prelude.{◌≡◌, ℕ, ◌+◌, ◌*◌, List, length, Result, Ok, Err}
 use Rattle.cubit_base.specs.History.{after}
 use Rattle.cubit_base.specs.Change.{Change, Outcome, Insert, Update, Delete, Duplicate, TableFull, Missing, LogFull, Placed as PlacedDelta, outcome}
 use Rattle.cubit_base.specs.declared.delta.Delta.{Delta}
 use Rattle.commit_log.specs.Log.{Terms, IsWhole}
-use Rattle.commit_log.specs.Handle.{Handle, Begins, mine, Appended}
+use Rattle.commit_log.specs.Handle.{Handle, ReadsOn, Appended, others}
 use Rattle.commit_log.specs.declared.front.Front.{Front}
 use Rattle.table_ops.specs.declared.change.Asked.{Asked}
 use Rattle.table_ops.specs.declared.change.Asked.TheVariants as asked
@@ -47,12 +47,6 @@ abbrev pub IsAt : Front → Result Delta OpStop → Type 0
 IsAt front (Ok delta) = Unit {0}
 IsAt front (Err stop) = stop_front stop ≡ front
 
--- the same handle, but that more deltas of others may have been seen and walked over
-pub record ReadsOn (handle later : Handle) : Type 0 where
-  pub is : later ≡ record handle { seen = later.seen; walked = later.walked }
-  pub begins : Begins handle.seen later.seen
-  pub mine : mine later ≡ mine handle
-
 -- the handle read on to where the change comes to a delta, and there this delta was appended, once
 pub record IsPlaced (terms : Terms) (handle : Handle) (change : Change) (later : Handle) (placed : Placed)
     : Type 0 where
@@ -76,10 +70,6 @@ pub record IsStopped (terms : Terms) (handle : Handle) (change : Change) (later 
 abbrev pub IsChanged : Terms → Handle → Change → Handle → Result Placed OpStop → Type 0
 IsChanged terms handle change later (Ok placed) = IsPlaced terms handle change later placed
 IsChanged terms handle change later (Err stop) = IsStopped terms handle change later stop
-
--- how many deltas of other authors a handle has seen since
-abbrev pub others : Handle → Handle → ℕ
-others handle later = length (filter (λ d. not (d.author == handle.author)) (drop (length handle.seen) later.seen))
 
 -- the most steps of a change: a look-up's, those of one try to append, and of one more for each delta of another
 -- author that came meanwhile

@@ -8,12 +8,10 @@ ghost use Rattle.cubit_base.specs.Key.{KeyValue, same_key};
 ghost use Rattle.cubit_base.specs.declared.delta.Delta.{Delta as DeltaValue};
 ghost use Rattle.cubit_base.specs.declared.entry.Entry.{Entry as EntryValue};
 ghost use Rattle.commit_log.specs.Log.{Terms, IsLog, Stands, IsEntry, IsLatest};
-ghost use Rattle.commit_log.specs.Handle.{SeesMore, with_look, RisesWithin};
+ghost use Rattle.commit_log.specs.Handle.{SeesMore, ReadsOn, with_look, RisesWithin};
 ghost use Rattle.unit_version.specs.Content.{content_of};
 ghost use Rattle.table_ops.specs.Found.{IsFound, page_of};
-ghost use Rattle.table_ops.specs.Changed.{ReadsOn};
 
-use crate::laws::reads;
 use commit_log::{CommitLog, Front};
 use cubit_base::{Delta, Entry, Key, Steps, Tuple, laws};
 use std::sync::ledger::Ledger;
@@ -65,7 +63,7 @@ pub(crate) fn found_behind<L: CommitLog, N: Ledger>(
 {
     commit_log::laws::prefixes();
     live_rows();
-    reads();
+    commit_log::laws::reads();
     let mut live = live;
     let mut cursor = log.cursor(from);
     while let Some(entry) = log.following(&mut cursor, to, steps) {

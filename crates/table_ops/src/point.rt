@@ -5,10 +5,10 @@ ghost use Rattle.cubit_base.specs.LiveRow.{HasDistinctLiveKeys};
 ghost use Rattle.commit_log.specs.Handle.{SeesMore, with_look, RisesWithin};
 ghost use Rattle.version_store.specs.Store.{IsStanding, Asks};
 ghost use Rattle.table_ops.specs.Found.{IsFound, page_of, known_length, lookup_steps};
-ghost use Rattle.table_ops.specs.Changed.{change_of, IsChanged, change_steps, others};
+ghost use Rattle.table_ops.specs.Changed.{change_of, IsChanged, change_steps};
 
 use crate::change::Asked;
-use crate::laws::{changes, reads};
+use crate::laws::changes;
 use crate::live::found_since;
 use crate::settle::{Found, settle};
 use crate::{OpStop, Placed};
@@ -151,7 +151,7 @@ fn change<S: VersionStore, N: Ledger>(
         (S.Log.handle log.old) (S.Log.handle log.new)) steps.old steps.new }
 {
     changes();
-    reads();
+    commit_log::laws::reads();
     commit_log::laws::handles();
     base.keys_differ();
     let key = asked.key();

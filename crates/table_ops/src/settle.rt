@@ -3,13 +3,13 @@ ghost use Rattle.std.specs.Prelude.{◌≡◌, ◌+◌, ◌-◌, ◌*◌, ◌≤
 ghost use Rattle.cubit_base.specs.Change.{key_of};
 ghost use Rattle.cubit_base.specs.LiveRow.{HasDistinctLiveKeys};
 ghost use Rattle.commit_log.specs.Log.{IsLog};
-ghost use Rattle.commit_log.specs.Handle.{RisesWithin};
+ghost use Rattle.commit_log.specs.Handle.{RisesWithin, others};
 ghost use Rattle.table_ops.specs.Found.{IsFound};
-ghost use Rattle.table_ops.specs.Changed.{change_of, IsChanged, others};
+ghost use Rattle.table_ops.specs.Changed.{change_of, IsChanged};
 ghost use Rattle.table_ops.specs.Tried.{IsTried};
 
 use crate::change::Asked;
-use crate::laws::{changes, reads};
+use crate::laws::changes;
 use crate::live::found_behind;
 use crate::{OpStop, Placed};
 use commit_log::{AppendStop, CommitLog, Front};
@@ -47,7 +47,7 @@ pub(crate) fn settle<L: CommitLog, N: Ledger>(
         + 5 * (length (L.handle log.new).seen - length (L.handle log.old).seen)) steps.old steps.new }
 {
     changes();
-    reads();
+    commit_log::laws::reads();
     commit_log::laws::prefixes();
     // From here on it is known that what was seen is a log.
     log.start();

@@ -2,7 +2,7 @@ use Rattle.std.proofs.Common.{◌≡◌, ◌+◌, ◌-◌, ◌*◌, ◌≤◌, t
 use Rattle.cubit_base.specs.LiveRow.{live_row}
 use Rattle.cubit_base.specs.History.{after}
 use Rattle.commit_log.specs.Log.{IsLog, Stands, IsPlace}
-use Rattle.table_ops.specs.Changed.{ReadsOn}
+use Rattle.commit_log.specs.Handle.{ReadsOn}
 use Rattle.table_ops.proofs.live.found_behind.Given as goal
 
 abbrev pub invariant-loop-entry : goal.invariant-loop-entry

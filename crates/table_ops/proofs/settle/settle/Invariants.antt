@@ -1,7 +1,7 @@
 use Rattle.std.proofs.Common.{◌+◌, ◌-◌, ◌*◌, ◌≤◌, length}
 use Rattle.commit_log.specs.Log.{IsLog}
 use Rattle.table_ops.specs.Found.{IsFound}
-use Rattle.table_ops.specs.Changed.{ReadsOn}
+use Rattle.commit_log.specs.Handle.{ReadsOn}
 use Rattle.table_ops.proofs.settle.settle.Given as goal
 
 abbrev pub invariant-loop-result : goal.invariant-loop-result

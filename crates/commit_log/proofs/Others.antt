@@ -6,8 +6,7 @@ use Rattle.std.proofs.lemmas.List.{length-map, append_assoc}
 use Rattle.std.proofs.lemmas.List.Elements.{filter-append}
 use Rattle.std.proofs.lemmas.List.Filters.{length-filter_both}
 use Rattle.cubit_base.specs.declared.delta.Delta.{Delta}
-use Rattle.commit_log.specs.Handle.{Handle, Begins, Grows, places_by, mine}
-use Rattle.table_ops.specs.Changed.{ReadsOn, others}
+use Rattle.commit_log.specs.Handle.{Handle, Begins, Grows, ReadsOn, places_by, mine, others}
 
 abbrev is_own : ℕ → Delta → Bool
 is_own author d = d.author == author
@@ -61,22 +60,22 @@ others-read handle later reads =
     omega (arith, long, all, since)
 
 -- more that is seen may have more of them
-pub others-more : (handle read later : Handle) → Begins handle.seen read.seen → Begins read.seen later.seen →
+pub others-earlier : (handle read later : Handle) → Grows handle read → Grows read later →
     others handle read ≤ others handle later
-others-more handle read later first then =
+others-earlier handle read later first then =
     let other = is_other handle.author in
-    let is = then.1 ∙ ap (λ (l : List Delta). l ++ then.0) first.1 in
-    let joined = is ∙ append_assoc handle.seen first.0 then.0 in
-    let parts = ap (λ (l : List Delta). length l) (filter-append other first.0 then.0)
-    ∙ length-append (filter other first.0) (filter other then.0) in
-    let before = others-since handle read first.0 first.1 in
-    let now = others-since handle later (first.0 ++ then.0) joined in
+    let is = then.begins.1 ∙ ap (λ (l : List Delta). l ++ then.begins.0) first.begins.1 in
+    let joined = is ∙ append_assoc handle.seen first.begins.0 then.begins.0 in
+    let parts = ap (λ (l : List Delta). length l) (filter-append other first.begins.0 then.begins.0)
+    ∙ length-append (filter other first.begins.0) (filter other then.begins.0) in
+    let before = others-since handle read first.begins.0 first.begins.1 in
+    let now = others-since handle later (first.begins.0 ++ then.begins.0) joined in
     omega (arith, parts, before, now)
 
 -- from later on there are no more of them
-pub others-fewer : (handle read later : Handle) → Grows handle read → Grows read later →
+pub others-later : (handle read later : Handle) → Grows handle read → Grows read later →
     others read later ≤ others handle later
-others-fewer handle read later first then =
+others-later handle read later first then =
     let other = is_other handle.author in
     let rest = first.begins.0 in
     let more = then.begins.0 in
