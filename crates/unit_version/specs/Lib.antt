@@ -4,6 +4,7 @@ pub mod Content
 pub mod Entry
 pub mod KeyedRow
 pub mod Packed
+pub mod Patch
 pub mod RowBins
 pub mod Search
 pub mod Split

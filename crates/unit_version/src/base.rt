@@ -87,6 +87,14 @@ impl Base {
         let _rows = self.rows;
     }
 
+    /// How many rows there may ever be.
+    pub fn row_room(&self) -> u32
+        ensures value { result ≡ self.now.row_room }
+        ensures within { self.now.row_room ≤ ROW_LIMIT }
+    {
+        self.row_room
+    }
+
     /// The number of pages that all rows may ever take.
     pub fn pages(&self) -> u32
         ensures { result ≡ page_count self.now.row_room }

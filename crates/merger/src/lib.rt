@@ -1,0 +1,10 @@
+//! Merges: versions of units that follow the log.
+#![tactic(auto)]
+
+mod one;
+mod outcome;
+mod stub;
+
+pub use cubit_base::Memory;
+pub use one::merge;
+pub use outcome::{Merge, MergeCount};
