@@ -1,6 +1,7 @@
 //! Merges: versions of units that follow the log.
 #![tactic(auto)]
 
+mod digest;
 mod one;
 mod outcome;
 mod stub;

@@ -1,39 +1,43 @@
-use Rattle.std.proofs.Common.{◌≡◌, ◌∙◌, ap, arith}
+use Rattle.std.proofs.Common.{◌≡◌, ◌≤◌, ◌∙◌, refl, arith}
+use Rattle.version_store.specs.Store.{RoseBy}
+use Rattle.merger.proofs.Looking.{looks-after}
 use Rattle.merger.proofs.one.merge.Goals as goal
 
-pub put-requires-clause-over : goal.put-requires-clause-over
-put-requires-clause-over g c =
+pub returns-in-Ok-clause-merge : goal.returns-in-Ok-clause-merge
+returns-in-Ok-clause-merge g c =
     let handle = g.S.Log.CommitLog.handle in
-    let store = c.hold-held.new.self in
-    let held = c.hold-held.new.log in
-    let looked = c.front-front.new.self in
-    let walked = c.carried-carried.new.log in
-    c.leave-2.ensures.over walked
-    (g.met.S.VersionStore.lasts store looked walked
-    (g.met.S.VersionStore.lasts store held looked c.hold-held.ensures.over
-    (c.handles.ensures.look (handle held) (handle looked) c.front-front.ensures.more))
-    (c.reads.ensures.grows (handle looked) (handle walked) c.carried-carried.ensures.reads))
-
-pub returns-in_err-content-clause-standing : goal.returns-in_err-content-clause-standing
-returns-in_err-content-clause-standing g c =
-    let handle = g.S.Log.CommitLog.handle in
-    let store = c.hold-held.new.self in
-    let held = c.hold-held.new.log in
-    let looked = c.front-front.new.self in
-    let walked = c.carried-carried.new.log in
-    let over = c.leave-2.ensures.over walked
-               (g.met.S.VersionStore.lasts store looked walked
-               (g.met.S.VersionStore.lasts store held looked c.hold-held.ensures.over
-               (c.handles.ensures.look (handle held) (handle looked) c.front-front.ensures.more))
-               (c.reads.ensures.grows (handle looked) (handle walked) c.carried-carried.ensures.reads)) in
-    let standing = c.requires.standing in
-    let none = standing.none_lent in
-    let one_more = c.in-Ok.ensures.hold.lent in
+    let store = g.S.VersionStore.store in
     record {
-      none_lent = ap (λ s. s.lent) c.leave-2.ensures.store ∙ omega (arith, none, one_more);
-      over = over;
-      pages_are = ap (λ s. s.pages) c.leave-2.ensures.store ∙ c.hold-held.ensures.asks.pages ∙ standing.pages_are;
-      table_is = standing.table_is;
-      row_room = standing.row_room;
-      tries = standing.tries;
+      read = handle c.front-front.new.self;
+      front = c.front-front.result;
+      more = looks-after (handle c.args.log.now) (handle c.hold-held.new.log) (handle c.front-front.new.self)
+          c.hold-held.ensures.more c.front-front.ensures.more;
+      whole = c.front-front.ensures.whole;
+      merges = c.holds.ensures g.S.Log.CommitLog.terms c.args.unit c.front-front.result (handle c.front-front.new.self)
+          (handle c.merge_held.new.log) (store c.args.store.now) (store c.hold-held.new.self)
+          (store c.merge_held.new.store) c.merge_held.result c.hold-held.ensures.asks c.merge_held.ensures.merge;
+      reads = c.merge_held.ensures.reads;
     }
+
+pub returns-in-Err-clause-merge : goal.returns-in-Err-clause-merge
+returns-in-Err-clause-merge g c =
+    let handle = g.S.Log.CommitLog.handle in
+    record {
+      read = handle c.front-front.new.self;
+      front = c.front-front.result;
+      more = looks-after (handle c.args.log.now) (handle c.hold-held.new.log) (handle c.front-front.new.self)
+          c.hold-held.ensures.more c.front-front.ensures.more;
+      whole = c.front-front.ensures.whole;
+      merges = record {
+        rose = omega (arith, c.in-Err.ensures.hold.all, c.in-Err.ensures.hold.rose, c.requires.tries);
+        told = c.hold-held.ensures.asks.told;
+      };
+      reads = c.reads.ensures.same (handle c.front-front.new.self);
+    }
+
+pub merge_held-requires-clause-fits : goal.merge_held-requires-clause-fits
+merge_held-requires-clause-fits g c =
+    let handle = g.S.Log.CommitLog.handle in
+    c.versions.ensures.longer g.S.Log.CommitLog.terms (handle c.hold-held.new.log).seen
+    (handle c.front-front.new.self).seen c.args.unit (g.S.VersionStore.shown c.hold-held.new.self c.in-Ok.claim)
+    c.front-front.ensures.more.begins c.in-Ok.ensures.hold.fits

@@ -1,7 +1,7 @@
 use Rattle.std.proofs.Common.{◌≡◌, ◌-◌, ◌≤◌}
 use Rattle.commit_log.specs.Log.{IsLog, Stands, IsPlace, between}
 use Rattle.commit_log.specs.Handle.{ReadsOn}
-use Rattle.merger.proofs.one.deltas_between.Given as goal
+use Rattle.merger.proofs.digest.deltas_between.Given as goal
 
 abbrev pub invariant-loop-entry : goal.invariant-loop-entry
 invariant-loop-entry g l =
