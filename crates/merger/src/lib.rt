@@ -1,11 +1,14 @@
 //! Merges: versions of units that follow the log.
 #![tactic(auto)]
 
+mod all;
 mod digest;
 mod one;
+mod order;
 mod outcome;
 mod stub;
 
+pub use all::merge_all;
 pub use cubit_base::Memory;
 pub use one::merge;
 pub use outcome::{Merge, MergeCount};

@@ -139,8 +139,8 @@ fn put<S: VersionStore, N: Ledger>(
     }
 }
 
-// What a merge comes to since a hold, it comes to since before it.
-fn holds()
+/// What a merge comes to since a hold, it comes to since before it.
+pub(crate) fn holds()
     ensures { (terms : Terms) (unit : IndexUnit) (front : FrontValue) (handle later : Handle) (store held now : Store)
         (result : Result MergeValue MemoryValue) → Asks unit store held →
         Merges terms unit front handle held later now result → Merges terms unit front handle store later now result }
