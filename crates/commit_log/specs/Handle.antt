@@ -1,5 +1,5 @@
 -- A log as one of its callers sees it.
-use Rattle.std.specs.Prelude.{◌≡◌, ℕ, ◌+◌, ◌-◌, ◌^◌, ◌≤◌, ◌<◌, ◌==◌, List, [], ◌∷◌, ◌++◌, length, map, filter, min, Option, Some, None, Result, Ok, Err}
+use Rattle.std.specs.Prelude.{◌≡◌, ℕ, ◌+◌, ◌-◌, ◌^◌, ◌≤◌, ◌<◌, ◌==◌, not, List, [], ◌∷◌, ◌++◌, length, map, filter, drop, min, Option, Some, None, Result, Ok, Err}
 use Rattle.std.specs.List.{enumerate_from}
 use Rattle.std.specs.Option.{option_map}
 use Rattle.cubit_base.specs.declared.delta.Delta.{Delta}
@@ -56,6 +56,16 @@ pub record SeesMore (handle later : Handle) : Type 0 where
   pub is : later ≡ record handle { seen = later.seen }
   pub begins : Begins handle.seen later.seen
   pub mine : mine later ≡ mine handle
+
+-- the same handle, but that more deltas of others may have been seen and walked over
+pub record ReadsOn (handle later : Handle) : Type 0 where
+  pub is : later ≡ record handle { seen = later.seen; walked = later.walked }
+  pub begins : Begins handle.seen later.seen
+  pub mine : mine later ≡ mine handle
+
+-- how many deltas of other authors a handle has seen since
+abbrev pub others : Handle → Handle → ℕ
+others handle later = length (filter (λ d. not (d.author == handle.author)) (drop (length handle.seen) later.seen))
 
 -- a walk goes on: it gives the entry at the cursor, which is moved on by one
 pub record WalksOn (terms : Terms) (handle : Handle) (cursor : Cursor) (to : Front) (later : Handle) (next : Cursor)

@@ -8,7 +8,7 @@ ghost use Rattle.cubit_base.specs.History.{after, is_of_key, last_delta};
 ghost use Rattle.cubit_base.specs.declared.delta.Delta.{Delta};
 ghost use Rattle.cubit_base.specs.declared.entry.Entry.{Entry};
 ghost use Rattle.commit_log.specs.Log.{Terms, IsLog, Stands, IsPlace, between, IsLatest};
-ghost use Rattle.commit_log.specs.Handle.{Handle, Begins, Grows, SeesMore, with_look, with_walk, Appended};
+ghost use Rattle.commit_log.specs.Handle.{Handle, Begins, Grows, SeesMore, ReadsOn, with_look, with_walk, others, Appended};
 ghost use Rattle.commit_log.specs.declared.front.Front.{Front};
 ghost use Rattle.commit_log.specs.declared.front.Cursor.{Cursor};
 
@@ -35,6 +35,23 @@ pub fn handles()
     ensures more { (handle later : Handle) → SeesMore handle later → Grows handle later }
     ensures look { (handle later : Handle) → SeesMore (with_look handle) later → Grows handle later }
     ensures walk { (handle later : Handle) → later ≡ with_walk handle → Grows handle later }
+{}
+
+/// Handles that read on.
+pub fn reads()
+    ensures same { (handle : Handle) → ReadsOn handle handle }
+    ensures walk { (handle later last : Handle) → ReadsOn handle later → last ≡ with_walk later →
+        ReadsOn handle last }
+    ensures more { (handle later last : Handle) → ReadsOn handle later → SeesMore later last → ReadsOn handle last }
+    ensures on { (handle later last : Handle) → ReadsOn handle later → ReadsOn later last → ReadsOn handle last }
+    ensures grows { (handle later : Handle) → ReadsOn handle later → Grows handle later }
+    // All that it reads on by is of other authors.
+    ensures others { (handle later : Handle) → ReadsOn handle later →
+        length later.seen ≡ length handle.seen + others handle later }
+    ensures earlier { (handle read later : Handle) → Grows handle read → Grows read later →
+        others handle read ≤ others handle later }
+    ensures later { (handle read later : Handle) → Grows handle read → Grows read later →
+        others read later ≤ others handle later }
 {}
 
 /// Appended deltas.

@@ -77,6 +77,21 @@ impl Base {
         self.rows
     }
 
+    /// No two live rows of the table have one key. This does nothing: where it is called, that is known.
+    pub fn keys_differ(&self)
+        ensures { HasDistinctLiveKeys self.now.table }
+    {
+        let _rows = self.rows;
+    }
+
+    /// How many rows there may ever be.
+    pub fn row_room(&self) -> u32
+        ensures value { result ≡ self.now.row_room }
+        ensures within { self.now.row_room ≤ ROW_LIMIT }
+    {
+        self.row_room
+    }
+
     /// The number of pages that all rows may ever take.
     pub fn pages(&self) -> u32
         ensures { result ≡ page_count self.now.row_room }

@@ -1,0 +1,4 @@
+pub mod Looking
+pub mod Ordered
+pub mod Passes
+pub mod Passing

@@ -1,0 +1,4 @@
+pub mod All
+pub mod Digest
+pub mod Merge
+pub mod Order
