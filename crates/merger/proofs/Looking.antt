@@ -9,9 +9,9 @@ pub looks-after : (handle read later : Handle) → SeesMore handle read → Sees
 looks-after handle read later first then = record {
   is = then.is ∙ ap (λ (h : Handle). record (with_look h) { seen = later.seen }) first.is;
   begins = (
-      first.begins.0 ++ then.begins.0,
-      then.begins.1 ∙ ap (λ (l : List Delta). l ++ then.begins.0) first.begins.1
-      ∙ append_assoc handle.seen first.begins.0 then.begins.0
+    first.begins.0 ++ then.begins.0,
+    then.begins.1 ∙ ap (λ (l : List Delta). l ++ then.begins.0) first.begins.1
+        ∙ append_assoc handle.seen first.begins.0 then.begins.0,
   );
   mine = then.mine ∙ first.mine;
 }

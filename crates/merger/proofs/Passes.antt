@@ -53,8 +53,8 @@ fresh-next pages n len change (Some first) before fresh more within (values, is,
     let place = order-at pages n within in
     let unit = unit_at pages n in
     let same : values unit ≡ first unit =
-        goes.each unit (is-unit pages n within)
-        ∙ grind (arith, place) in
+    goes.each unit (is-unit pages n within)
+    ∙ grind (arith, place) in
     let last : suc n ≡ n + 1 = omega arith in
     let one_more = subst (λ told. IfSome told (λ t. more ≡ fresh + (if (t unit).front.len == len then 1 else 0))) is one in
     one_more
@@ -100,17 +100,16 @@ module _ (terms : Terms) (log : List Delta) (front : Front) (unit : IndexUnit) (
   pub effect : (count : MergeCount) (merge : Merge) → Merges terms unit front read before later now (Ok merge) →
       TellsAt before.pages unit change before.told now.told × one_more count (counted count merge) before.told
   effect count (Merged from to) m =
-      let less : from < front.len = omega (arith, m.longer, m.to_is) in
-      (
-          tells-same before.pages unit (λ old. version_at terms later.seen unit front) change before.told now.told
-          (IfSome_then before.told m.was (λ told is. carried (told unit) from less is)) m.told,
-          IfSome_then before.told m.was (λ told is. not_counted (told unit) from count.fresh less is)
+      let less : from < front.len = omega (arith, m.longer, m.to_is) in (
+        tells-same before.pages unit (λ old. version_at terms later.seen unit front) change before.told now.told
+            (IfSome_then before.told m.was (λ told is. carried (told unit) from less is)) m.told,
+        IfSome_then before.told m.was (λ told is. not_counted (told unit) from count.fresh less is),
       )
   effect count (Fresh len) m = (
-      tells-stay before.pages unit change before.told now.told
-      (IfSome_then before.told m.is (λ told is. stays (told unit) (equal (told unit) len m.least m.most is.0))) m.told,
-      IfSome_then before.told m.is (λ told is.
-          is_counted (told unit) count.fresh (equal (told unit) len m.least m.most is.0))
+    tells-stay before.pages unit change before.told now.told
+        (IfSome_then before.told m.is (λ told is. stays (told unit) (equal (told unit) len m.least m.most is.0))) m.told,
+    IfSome_then before.told m.is (λ told is.
+        is_counted (told unit) count.fresh (equal (told unit) len m.least m.most is.0)),
   )
   effect count Busy m = absurd (omega (arith, m.rose, losses, lossless))
 
@@ -146,10 +145,10 @@ merged-none terms log front store later = record {
   told = λ same lossless. tells-none store.pages (caught_up terms log front) store.told;
 }
   where
-  none-fresh : (told : Option (IndexUnit → Version)) →
-      IfSome told (λ t. 0 ≡ count_at front.len t store.pages 0)
-  none-fresh None = tt
-  none-fresh (Some t) = refl
+    none-fresh : (told : Option (IndexUnit → Version)) →
+        IfSome told (λ t. 0 ≡ count_at front.len t store.pages 0)
+    none-fresh None = tt
+    none-fresh (Some t) = refl
 
 -- one unit more
 module _ (terms : Terms) (log : List Delta) (front : Front) (store before now : Store) (handle later : Handle) (n : ℕ)
@@ -178,12 +177,11 @@ module _ (terms : Terms) (log : List Delta) (front : Front) (store before now : 
       let told = are.told (same_before same) (lossless_before lossless) in
       let fresh = are.fresh (same_before same) (lossless_before lossless) in
       let one = effect terms log front unit by.read later store before now whole same are.losses lossless count merge
-                by.merges in
-      (
-          fresh-next store.pages n front.len (caught_up terms log front) store.told before.told count.fresh
-          (counted count merge).fresh within told fresh one.1,
-          tells-next store.pages n (caught_up terms log front) store.told before.told now.told within told
-          (subst (λ pages. TellsAt pages unit (caught_up terms log front unit) before.told now.told) are.pages one.0)
+      by.merges in (
+        fresh-next store.pages n front.len (caught_up terms log front) store.told before.told count.fresh
+            (counted count merge).fresh within told fresh one.1,
+        tells-next store.pages n (caught_up terms log front) store.told before.told now.told within told
+            (subst (λ pages. TellsAt pages unit (caught_up terms log front unit) before.told now.told) are.pages one.0),
       )
 
   pub merged-next : AreMerged terms log front store later now (n + 1) (counted count merge)
@@ -204,10 +202,10 @@ tells-all : {A : Type 0} (pages : ℕ) (change : IndexUnit → A → A) (before 
     TellsThrough pages (unit_count pages) change before now → TellsEach pages change before now
 tells-all pages change None now through = through
 tells-all pages change (Some before) now (values, is, goes) = (
-    values,
-    is,
-    λ unit is_unit.
-        let within = order-within pages unit is_unit in goes.each unit is_unit ∙ grind (arith, within)
+  values,
+  is,
+  λ unit is_unit.
+      let within = order-within pages unit is_unit in goes.each unit is_unit ∙ grind (arith, within),
 )
 
 whole-front : (terms : Terms) (log : List Delta) (front : Front) → IsWhole terms log front → front ≡ front_of terms log
@@ -215,9 +213,9 @@ whole-front terms log front is =
     let all = take_all front.len log (omega (arith, is.whole)) in
     ap (λ len. record front { len = len }) is.whole
     ∙ ap (λ rows. record { len = length log; rows = rows; node = front.node })
-      (is.stands.rows ∙ ap (rows_after terms.base) all)
+    (is.stands.rows ∙ ap (rows_after terms.base) all)
     ∙ ap (λ node. record { len = length log; rows = rows_after terms.base log; node = node })
-      (is.stands.node ∙ ap terms.node all)
+    (is.stands.node ∙ ap terms.node all)
 
 pub merged-all : (terms : Terms) (front : Front) (store now : Store) (handle read later : Handle)
     (count : MergeCount) → SeesMore (with_look handle) read → IsWhole terms read.seen front → ReadsOn read later →
@@ -238,8 +236,8 @@ merged-all terms front store now handle read later count more whole reads are = 
       (are.told (nothing_more same) lossless)));
 }
   where
-  nothing_more : later.seen ≡ handle.seen → later.seen ≡ read.seen
-  nothing_more same =
-      let first = begins-length handle.seen read.seen more.begins in
-      let long = ap (λ (l : List Delta). length l) same in
-      begins-same read.seen later.seen reads.begins (omega (arith, first, long))
+    nothing_more : later.seen ≡ handle.seen → later.seen ≡ read.seen
+    nothing_more same =
+        let first = begins-length handle.seen read.seen more.begins in
+        let long = ap (λ (l : List Delta). length l) same in
+        begins-same read.seen later.seen reads.begins (omega (arith, first, long))

@@ -18,12 +18,12 @@ pub tells-none : {A : Type 0} (pages : ℕ) (change : IndexUnit → A → A) (to
     TellsThrough pages 0 change told told
 tells-none pages change None = refl
 tells-none pages change (Some before) = (
-    before,
-    refl,
-    record {
-      each = λ unit is.
-          sym (if-ge (order_of pages unit) 0 (change unit (before unit)) (before unit) (omega arith));
-    }
+  before,
+  refl,
+  record {
+    each = λ unit is.
+        sym (if-ge (order_of pages unit) 0 (change unit (before unit)) (before unit) (omega arith));
+  },
 )
 
 module _ {A : Type 0} (pages n : ℕ) (change : IndexUnit → A → A) (first before now : IndexUnit → A)
@@ -34,7 +34,7 @@ module _ {A : Type 0} (pages n : ℕ) (change : IndexUnit → A → A) (first be
   here unit is same =
       let this : unit_at pages n ≡ unit = ap (unit_at pages) (sym same) ∙ at-order pages unit is in
       let was = goes.each unit is
-                ∙ if-ge (order_of pages unit) n (change unit (first unit)) (first unit) (omega (arith, same)) in
+      ∙ if-ge (order_of pages unit) n (change unit (first unit)) (first unit) (omega (arith, same)) in
       subst (λ u. now u ≡ change u (before u)) this at.here
       ∙ ap (change unit) was
       ∙ sym (if-lt (order_of pages unit) (n + 1) (change unit (first unit)) (first unit) (omega (arith, same)))

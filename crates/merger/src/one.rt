@@ -53,7 +53,17 @@ pub fn merge<S: VersionStore, N: Ledger>(
     match held {
         Ok(claim) => {
             let mut digests = Digests::new();
-            merge_held(alloc, log, store, base, unit, claim, &front, &mut digests, steps)
+            merge_held(
+                alloc,
+                log,
+                store,
+                base,
+                unit,
+                claim,
+                &front,
+                &mut digests,
+                steps,
+            )
         }
         Err(_) => Ok(Merge::Busy),
     }

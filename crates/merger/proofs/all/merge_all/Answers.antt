@@ -11,8 +11,8 @@ returns-in_err-merge-clause-reads g c =
     let handle = g.S.Log.CommitLog.handle in
     let store = g.S.VersionStore.store in
     let here = c.passes.ensures.reads g.S.Log.CommitLog.terms c.unit_at-unit.result c.front-front.result
-               (handle c.loop-place.log) (handle c.merge_next.new.log) (store c.loop-place.store)
-               (store c.merge_next.new.store) c.merge_next.result c.merge_next.ensures.merge in
+    (handle c.loop-place.log) (handle c.merge_next.new.log) (store c.loop-place.store)
+    (store c.merge_next.new.store) c.merge_next.result c.merge_next.ensures.merge in
     c.passes.ensures.looks (handle c.args.log.now) (handle c.front-front.new.self) (handle c.merge_next.new.log)
     c.front-front.ensures.more
     (c.reads.ensures.on (handle c.front-front.new.self) (handle c.loop-place.log) (handle c.merge_next.new.log)
@@ -38,8 +38,8 @@ loop-place-preserved g c =
     let place = c.loop-place.place in
     let unit = c.unit_at-unit.ensures.value ∙ ap (λ p. unit_at p place) pages in
     let within : place < unit_count start.pages =
-        subst (λ n. place < n) (c.units-place-end.ensures ∙ ap unit_count (sym c.requires.standing.pages_are))
-        c.loop-place-test.true in
+    subst (λ n. place < n) (c.units-place-end.ensures ∙ ap unit_count (sym c.requires.standing.pages_are))
+    c.loop-place-test.true in
     record {
       standing = c.merge_next.ensures.standing;
       stands = c.prefixes.ensures.front terms before.seen now.seen front here.begins inv.stands;
@@ -60,8 +60,8 @@ returns-clause-merged g c =
     let inv = c.loop-place.invariant in
     let start = store c.args.store.now in
     let all : c.loop-place.place ≡ unit_count start.pages =
-        omega (arith, c.loop-place-test.false, c.loop-place.auto.place-end)
-        ∙ c.units-place-end.ensures ∙ ap unit_count (sym c.requires.standing.pages_are) in
+    omega (arith, c.loop-place-test.false, c.loop-place.auto.place-end)
+    ∙ c.units-place-end.ensures ∙ ap unit_count (sym c.requires.standing.pages_are) in
     c.passes.ensures.last terms c.front-front.result start (store c.loop-place.store) (handle c.args.log.now)
     (handle c.front-front.new.self) (handle c.loop-place.log) c.loop-place.count c.front-front.ensures.more
     c.front-front.ensures.whole inv.reads
