@@ -85,19 +85,47 @@ impl Digests {
         ensures reads { ReadsOn (L.handle log.old) (L.handle log.new) }
     {
         leads();
-        log.start();
-        let digest = match self.known(from.len, to.len) {
-            Some(digest) => digest,
-            None => Digest {
-                from: from.len,
-                to: to.len,
-                changes: changes_between(alloc, log, from, to, steps)?,
-            },
-        };
+        let digest = self.digest(alloc, log, from, to, steps)?;
         let content = patched_by(alloc, unit, content, from.rows, &digest.changes, to.rows);
         self.other = self.last.take();
         self.last = Some(digest);
         content
+    }
+
+    // The digest between two fronts, which is one that was kept or a new one.
+    fn digest<L: CommitLog, N: Ledger>(
+        &mut self,
+        alloc: Global,
+        log: &mut L,
+        from: &Front,
+        to: &Front,
+        steps: &mut Steps<N>,
+    ) -> Result<Digest, Memory>
+        requires digests { AreDigests (L.handle log.old).seen self.old }
+        requires from { Stands L.terms (L.handle log.old).seen from.now }
+        requires to { Stands L.terms (L.handle log.old).seen to.now }
+        requires order { from.now.len ≤ to.now.len }
+        ensures digest { IfOk result (λ digest. digest ≡ record {
+          from = from.now.len;
+          to = to.now.len;
+          changes = between from.now.len to.now.len (L.handle log.new).seen;
+        }) }
+        ensures digests { AreDigests (L.handle log.new).seen self.new }
+        ensures log { IsLog L.terms (L.handle log.new).seen }
+        ensures seen { (L.handle log.new).seen ≡ (L.handle log.old).seen }
+        ensures reads { ReadsOn (L.handle log.old) (L.handle log.new) }
+    {
+        commit_log::laws::reads();
+        // From here on it is known that what was seen is a log.
+        log.start();
+        if let Some(digest) = self.known(from.len, to.len) {
+            return Ok(digest);
+        }
+        Ok(Digest {
+            from: from.len,
+            to: to.len,
+            changes: changes_between(alloc, log, from, to, steps)?,
+        })
     }
 
     // Takes the digest of this stretch, if it is kept.
