@@ -19,6 +19,6 @@ returns-in-Ok-clause-live g c =
     } in
     let change : IsUpdate table delta = record { before = refl; after = refl; row = c.requires.live } in
     ap (λ (t : List Row). slice_get t 0)
-    (c.appends.ensures.table terms (handle c.args.log.now) (handle c.try_append.new.self) c.args.at.now c.in-Ok.front delta
-    c.in-Ok.ensures.append)
+    (c.appends.ensures.table terms (handle c.args.log.now) (handle c.try_append.new.self) c.args.at.now c.in-Ok.front
+    delta c.in-Ok.ensures.append)
     ∙ c.deltas.ensures.own terms.limits.row_limit table delta (inr (inl change))
