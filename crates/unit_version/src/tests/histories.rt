@@ -1,5 +1,5 @@
 // Histories over small tables, made delta by delta.
-ghost use Rattle.std.specs.Prelude.{◌≡◌, ◌<◌, ◌≤◌, List, [], IfOk, OnOk, IfSome, IsTrue, length};
+ghost use Rattle.std.specs.Prelude.{◌≡◌, ◌+◌, ◌<◌, ◌≤◌, List, [], IfOk, OnOk, IfSome, IsTrue, length};
 ghost use Rattle.cubit_base.specs.Table.{Row};
 ghost use Rattle.cubit_base.specs.LiveRow.{IsFree};
 ghost use Rattle.cubit_base.specs.Delta.{applied, IsLawful};
@@ -90,7 +90,9 @@ pub(super) fn follow(
 ) -> Result<(), Memory>
     requires lawful { IfSome delta (λ d. IsLawful 16_777_216 rows.old.items d) }
     requires few { length deltas.old < 1_000_000 }
-    ensures { OnOk result ((base : List Row) → IsHistory 16_777_216 base deltas.old
+    ensures rows_few { OnOk result (length rows.new.items ≤ length rows.old.items + 1) }
+    ensures deltas_few { OnOk result (length deltas.new ≤ length deltas.old + 1) }
+    ensures history { OnOk result ((base : List Row) → IsHistory 16_777_216 base deltas.old
         → rows.old.items ≡ after base deltas.old
         → IsHistory 16_777_216 base deltas.new × (rows.new.items ≡ after base deltas.new)) }
 {

@@ -8,11 +8,12 @@ ghost use Rattle.wah_words.specs.Place.{page_count};
 ghost use Rattle.unit_version.specs.Unit.{IsUnit};
 ghost use Rattle.unit_version.specs.Patch.{IsSomeUnit};
 
+use super::carry::carried;
 use super::histories::{Rows, change, follow, insert, rows_of, table_from};
 use super::{key_of, table_of, tuple_of};
 use crate::{Base, Changes, Content, Memory, Unit, patched, patched_by};
 use column_bins::Column;
-use cubit_base::{DeltaList, Key, Steps, Tuple, laws};
+use cubit_base::{DeltaList, Steps, laws};
 use std::alloc::Global;
 use std::marker::Brand;
 use std::process::Abort;
@@ -24,6 +25,7 @@ fn draw(alloc: Global, rows: &mut Rows, count: u32, seed: u64) -> Result<DeltaLi
     requires { length rows.old.items + count ≤ 100_000 }
     ensures lawful { IfOk result (λ deltas. IsHistory 16_777_216 rows.old.items deltas) }
     ensures then { IfOk result (λ deltas. rows.new.items ≡ after rows.old.items deltas) }
+    ensures few { IfOk result (λ deltas. length rows.new.items ≤ length rows.old.items + count) }
 {
     let mut deltas = DeltaList::new(alloc);
     let mut state = seed;
@@ -145,17 +147,13 @@ fn all_follow<N: Ledger, R: Abort + AllocGlobal>(
     deltas: &DeltaList,
     then: &Base,
     rows: &Rows,
-    blank: Blank,
+    reads: &mut Steps<N>,
 ) -> Result<(), Memory>
-    requires name { blank.name ≡ N.name }
-    requires parts { blank.parts ≡ N.parts }
-    requires some { 0 < N.parts }
     requires room { then.now.row_room ≡ base.now.row_room }
     requires limit { base.now.row_room ≤ 16_777_216 }
     requires lawful { IsHistory 16_777_216 base.now.table deltas.now }
     requires end { then.now.table ≡ after base.now.table deltas.now }
 {
-    let reads = &mut Steps::<N>::make(blank);
     let changes = &Changes::of(rt.alloc(), deltas)?;
     follows(rt, Unit::Live, base, deltas, changes, then, rows, reads)?;
     for (column, bins) in [
@@ -194,29 +192,55 @@ fn all_follow<N: Ledger, R: Abort + AllocGlobal>(
     Ok(())
 }
 
-// A history from a table of so many rows, of which so many deltas are drawn.
-fn story<R: Abort + AllocGlobal>(rt: &R, rows: u32, count: u32, seed: u64) -> Result<(), Memory>
+// Two stretches of a history from a table of so many rows, of which so many deltas each are drawn.
+fn story<N: Ledger, R: Abort + AllocGlobal>(
+    rt: &R,
+    rows: u32,
+    count: u32,
+    blank: Blank,
+) -> Result<(), Memory>
     requires rows { rows ≤ 5_000 }
     requires count { count ≤ 5_000 }
+    requires name { blank.name ≡ N.name }
+    requires parts { blank.parts ≡ N.parts }
+    requires some { 0 < N.parts }
 {
     laws::live_rows();
+    laws::histories();
     let alloc = rt.alloc();
+    let reads = &mut Steps::<N>::make(blank);
     let table = table_of(alloc, rows)?;
     let mut rows = rows_of(alloc, &table)?;
-    let deltas = draw(alloc, &mut rows, count, seed)?;
-    let room = rows.len() as u32 + 1;
-    let then = Base::build(alloc, table_from(alloc, &rows)?, room)?;
-    if table.len() <= room {
-        let base = Base::build(alloc, table, room)?;
-        all_follow::<Brand, _>(rt, &base, &deltas, &then, &rows, Blank::new(1))?;
+    let first = draw(alloc, &mut rows, count, 1)?;
+    let between = Base::build(alloc, table_from(alloc, &rows)?, 16_000)?;
+    let second = draw(alloc, &mut rows, count, 2)?;
+    let then = Base::build(alloc, table_from(alloc, &rows)?, 16_000)?;
+    let base = Base::build(alloc, table, 16_000)?;
+    all_follow(rt, &base, &first, &between, &rows, reads)?;
+    for unit in [
+        Unit::Live,
+        Unit::Bin(Column::Qty, 6),
+        Unit::Page(1),
+        Unit::Keys(63),
+    ] {
+        let made = carried(
+            alloc,
+            &base,
+            unit,
+            &first,
+            between.rows(),
+            &second,
+            then.rows(),
+        )?;
+        is_same(rt, &made, then.content(unit), &rows, reads);
     }
     Ok(())
 }
 
 #[test]
-fn units_follow_a_drawn_history(rt: HostRuntime) -> Result<(), Fail> {
-    story(&rt, 4_400, 700, 1)?;
-    story(&rt, 0, 60, 2)?;
-    story(&rt, 3_968, 0, 3)?;
+fn units_follow_drawn_histories(rt: HostRuntime) -> Result<(), Fail> {
+    for (rows, count) in [(4_400, 500), (0, 60), (3_967, 0)] {
+        story::<Brand, _>(&rt, rows, count, Blank::new(1))?;
+    }
     Ok(())
 }

@@ -1,0 +1,12 @@
+use Rattle.std.proofs.Common.{◌+◌, ◌≤◌, List, length, ap, arith}
+use Rattle.cubit_base.specs.Table.{Row}
+use Rattle.unit_version.proofs.tests.story.story.Goals as goal
+
+pub draw-requires-2 : goal.draw-requires-2
+draw-requires-2 g c =
+    omega (
+      arith,
+      c.in_ok-first.ensures.few,
+      ap (λ (rows : List Row). length rows) c.in_ok-rows.ensures,
+      c.in_ok-table.ensures.few,
+    )
