@@ -25,7 +25,8 @@ use Rattle.merger.proofs.Passing.{tells-none, tells-next}
 begins-same : (log longer : List Delta) → Begins log longer → length longer ≤ length log → longer ≡ log
 begins-same log longer ([], is) short = is ∙ append-nil log
 begins-same log longer ((d ∷ rest), is) short =
-    let long = ap (λ (l : List Delta). length l) is ∙ length-append log (d ∷ rest) in absurd (omega (arith, long, short))
+    let long = ap (λ (l : List Delta). length l) is ∙ length-append log (d ∷ rest) in
+    absurd (omega (arith, long, short))
 
 -- changes that come to the same
 tells-same : {A : Type 0} (pages : ℕ) (unit : IndexUnit) (f g : A → A) (before now : Option (IndexUnit → A)) →
@@ -43,8 +44,8 @@ tells-stay pages unit g (Some told) now same is =
     (told, is, record { here = sym same; others = λ other is_unit apart. refl })
 
 -- the count of units whose version has the front's length, and one unit more
-pub fresh-next : (pages n len : ℕ) (change : IndexUnit → Version → Version) (first before : Option (IndexUnit → Version))
-    (fresh more : ℕ) → n < unit_count pages → TellsThrough pages n change first before →
+pub fresh-next : (pages n len : ℕ) (change : IndexUnit → Version → Version)
+    (first before : Option (IndexUnit → Version)) (fresh more : ℕ) → n < unit_count pages → TellsThrough pages n change first before →
     IfSome first (λ told. fresh ≡ count_at len told pages n) →
     IfSome before (λ told. more ≡ fresh + (if (told (unit_at pages n)).front.len == len then 1 else 0)) →
     IfSome first (λ told. more ≡ count_at len told pages (n + 1))
@@ -56,7 +57,8 @@ fresh-next pages n len change (Some first) before fresh more within (values, is,
     goes.each unit (is-unit pages n within)
     ∙ grind (arith, place) in
     let last : suc n ≡ n + 1 = omega arith in
-    let one_more = subst (λ told. IfSome told (λ t. more ≡ fresh + (if (t unit).front.len == len then 1 else 0))) is one in
+    let one_more = subst (λ told. IfSome told (λ t. more ≡ fresh + (if (t unit).front.len == len then 1 else 0)))
+    is one in
     one_more
     ∙ ap (λ k. k + (if (values unit).front.len == len then 1 else 0)) so_far
     ∙ ap (λ (v : Version). count_at len first pages n + (if v.front.len == len then 1 else 0)) same
@@ -107,7 +109,8 @@ module _ (terms : Terms) (log : List Delta) (front : Front) (unit : IndexUnit) (
       )
   effect count (Fresh len) m = (
     tells-stay before.pages unit change before.told now.told
-        (IfSome_then before.told m.is (λ told is. stays (told unit) (equal (told unit) len m.least m.most is.0))) m.told,
+        (IfSome_then before.told m.is (λ told is. stays (told unit) (equal (told unit) len m.least m.most is.0)))
+        m.told,
     IfSome_then before.told m.is (λ told is.
         is_counted (told unit) count.fresh (equal (told unit) len m.least m.most is.0)),
   )
@@ -227,7 +230,8 @@ merged-all terms front store now handle read later count more whole reads are = 
   asked = tells-all store.pages (λ unit. raised) store.asked now.asked are.asked;
   fresh = λ same lossless.
       subst (λ len. IfSome store.told (λ told. count.fresh ≡ count_at len told store.pages (unit_count store.pages)))
-      (whole.whole ∙ ap (λ (l : List Delta). length l) (sym (nothing_more same))) (are.fresh (nothing_more same) lossless);
+      (whole.whole ∙ ap (λ (l : List Delta). length l) (sym (nothing_more same)))
+      (are.fresh (nothing_more same) lossless);
   told = λ same lossless.
       subst (λ front. TellsEach store.pages (caught_up terms later.seen front) store.told now.told)
       (whole-front terms later.seen front (subst (λ log. IsWhole terms log front) (sym (nothing_more same)) whole))

@@ -12,8 +12,8 @@
 //!   was seen. Fresh: it is as long as all that was seen when the front was taken, or longer. Busy: a turn was lost. No
 //!   other version changes, and without memory none does.
 //! - `merge_all` (`IsAllMerged`): each unit is asked for once and counted once, as busy only where a turn was lost.
-//!   Where nothing more was seen meanwhile and no turn was lost, each version, as far as versions are told, stands at the
-//!   front of all that was seen; those that stood there already are counted as fresh, and the others as merged.
+//!   Where nothing more was seen meanwhile and no turn was lost, each version, as far as versions are told, stands at
+//!   the front of all that was seen; those that stood there already are counted as fresh, and the others as merged.
 //!
 //! # Only tested
 //!

@@ -132,7 +132,8 @@ fn put<S: VersionStore, N: Ledger>(
     requires longer { from.now.len < front.now.len }
     requires was { IfSome (S.store store.old).told (λ told. (told unit).front ≡ from.now) }
     requires front { Stands S.Log.terms (S.Log.handle log.old).seen front.now }
-    requires content { content ≡ content_of unit (after S.Log.terms.base (take front.now.len (S.Log.handle log.old).seen)) }
+    requires content { content
+        ≡ content_of unit (after S.Log.terms.base (take front.now.len (S.Log.handle log.old).seen)) }
     ensures merge { Merges S.Log.terms unit front.now (S.Log.handle log.old) (S.store store.old) (S.Log.handle log.new)
         (S.store store.new) (Ok result) }
     ensures keeps { Keeps (S.store store.old) (S.store store.new) }

@@ -21,13 +21,9 @@
 //!   another author that it met, so it tries at most once more than there are such deltas.
 //! - `laws`: what follows for the handle and for a change that begins later.
 //!
-//! # Only tested
-//!
-//! Nothing: the tests run what is proved, over both stores of one caller.
-//!
 //! # Not said
 //!
-//! - Time. How many entries a change walks over after others came first.
+//! Time, and how many entries a change walks over after others came first.
 //!
 //! # Example
 //!

@@ -74,8 +74,8 @@ pub(crate) fn found_behind<L: CommitLog, N: Ledger>(
 
 // How the live row of a key goes on from one front to another.
 fn live_rows()
-    ensures latest { (terms : Terms) (log : List DeltaValue) (key : KeyValue) (from to : ℕ) (entry : Option EntryValue) →
-        IsLog terms log → HasDistinctLiveKeys terms.base → from ≤ to → to ≤ length log →
+    ensures latest { (terms : Terms) (log : List DeltaValue) (key : KeyValue) (from to : ℕ)
+        (entry : Option EntryValue) → IsLog terms log → HasDistinctLiveKeys terms.base → from ≤ to → to ≤ length log →
         IsLatest terms log key from to entry → live_row (after terms.base (take to log)) key
         ≡ live_row_by_last (option_map (λ e. e.delta) entry) (live_row (after terms.base (take from log)) key) }
     ensures next { (terms : Terms) (log : List DeltaValue) (key : KeyValue) (place : ℕ) (entry : EntryValue) →

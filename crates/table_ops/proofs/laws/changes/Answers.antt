@@ -12,5 +12,5 @@ pub returns-clause-others : goal.returns-clause-others
 returns-clause-others c = λ terms handle read later change result reads is.
     let so_far = c.reads.ensures.others handle read reads in
     let more = c.reads.ensures.earlier handle read later (c.reads.ensures.grows handle read reads)
-               (change-grows terms read later change result is) in
+    (change-grows terms read later change result is) in
     omega (arith, so_far, more)

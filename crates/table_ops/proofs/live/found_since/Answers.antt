@@ -21,7 +21,8 @@ returns-clause-found g c =
     let begins = c.front-front.ensures.more.begins in
     let order : from ≤ front.len = omega (arith, whole.whole, c.requires.from.within, begins-length seen now begins) in
     let live_at : List Delta → Option (ℕ × TupleValue) = λ log. live_row (after terms.base log) key in
-    let by_last : Option (ℕ × TupleValue) → Option (ℕ × TupleValue) = λ before. live_row_by_last (option_map (λ e. e.delta) c.latest-last.result) before in
+    let by_last : Option (ℕ × TupleValue) → Option (ℕ × TupleValue) =
+    λ before. live_row_by_last (option_map (λ e. e.delta) c.latest-last.result) before in
     let live = ap live_at (sym (take_all front.len now (omega (arith, whole.whole))))
     ∙ c.live_rows.ensures.latest terms now key from front.len c.latest-last.result c.front-front.ensures.log
     c.requires.keys order whole.stands.within c.latest-last.ensures.latest
