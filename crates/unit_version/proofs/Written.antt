@@ -1,13 +1,13 @@
 -- Lists written page by page.
-use Rattle.std.proofs.Common.{◌≡◌, ℕ, ◌+◌, ◌-◌, ◌*◌, ◌/◌, ◌%◌, ◌^◌, ◌<◌, ◌≤◌, ◌==◌, ◌∙◌, Bool, false, List, [], ◌∷◌, ◌++◌, length, get_or, set, drop, map, refl, sym, ap, subst, inl, inr, arith}
+use Rattle.std.proofs.Common.{◌≡◌, ℕ, ◌+◌, ◌-◌, ◌*◌, ◌/◌, ◌%◌, ◌^◌, ◌<◌, ◌≤◌, ◌==◌, ◌∙◌, Bool, false, List, [], ◌∷◌, ◌++◌, length, get_or, set, take, drop, map, refl, sym, ap, subst, inl, inr, arith}
 use Rattle.std.specs.List.{remove}
 use Rattle.std.proofs.lemmas.Bool.{cases_eq, cases_lt}
 use Rattle.std.proofs.lemmas.Bool.Decides.{nat_tests}
 use Rattle.std.proofs.lemmas.List.{get_or-drop, get_or-take, get_or_append_left, get_or-append_right, get_or_past, get_or_default, get_or-set_same, get_or-set_other, length-set, length-append, length-drop, length-map, length-take-le}
 use Rattle.std.proofs.Math.ListN.{get_or-map}
 use Rattle.std.proofs.lemmas.List.Edits.{length-remove, get_or-remove_above}
-use Rattle.wah_words.specs.Group.{group_at, group_count}
-use Rattle.wah_words.specs.Place.{SpellPages, page_count}
+use Rattle.wah_words.specs.Group.{group_at, group_count, unpacked}
+use Rattle.wah_words.specs.Place.{ArePagesOf, SpellPages, page_count}
 use Rattle.cubit_base.specs.Table.{Row}
 use Rattle.column_bins.specs.declared.column.Column.{Column}
 use Rattle.column_bins.specs.declared.plan_type.Stretch.{Stretch}
@@ -172,26 +172,41 @@ all_pages past list groups are = record {
       ];
 }
 
--- the groups of a list's pages are those of the live rows of its bins
-pub live_pages : ((list : List Bool) (k : ℕ) → group_count (length list) ≤ k → group_at list k ≡ 0)
-    → (column : Column) (table : List Row) (stretch : Stretch) (groups : List ℕ) → stretch.after ≤ 255
-    → AreFirstPages (rows_in stretch (map (row_bin column) table)) (page_count (length table)) groups
-    → SpellPages groups (map (is_in_bins column stretch) table)
-live_pages past column table stretch groups few are =
+-- what is known of the groups of lists
+pub record PageLaws : Type 0 where
+  pub past : (list : List Bool) (k : ℕ) → group_count (length list) ≤ k → group_at list k ≡ 0
+  pub held : (groups : List ℕ) (list : List Bool) → SpellPages groups list → ArePagesOf groups (length list)
+  pub list : (groups : List ℕ) (list : List Bool) → SpellPages groups list → take (length list) (unpacked groups) ≡ list
+
+-- the groups are of the pages of so many rows, and these are of the list
+pub record IsMade (rows : ℕ) (groups : List ℕ) (list : List Bool) : Type 0 where
+  pub pages : ArePagesOf groups rows
+  pub is : take rows (unpacked groups) ≡ list
+
+-- the groups of all pages are those of the live rows of some bins
+pub IsMade-all : PageLaws → (column : Column) (table : List Row) (stretch : Stretch) (groups : List ℕ)
+    → stretch.after ≤ 255 → AreFirstPages (rows_in stretch (map (row_bin column) table)) (page_count (length table)) groups
+    → IsMade (length table) groups (map (is_in_bins column stretch) table)
+IsMade-all laws column table stretch groups few are =
     let bins = map (row_bin column) table in
     let list = rows_in stretch bins in
     let long : length list ≡ length table =
     length-map bins (in_stretch stretch) ∙ length-map table (row_bin column) in
     let pages : AreFirstPages list (page_count (length list)) groups = rw long are in
-    subst (SpellPages groups) (rows_in-bins column stretch table few) (all_pages past list groups pages)
+    let spelled : SpellPages groups list = all_pages laws.past list groups pages in
+    record {
+      pages = subst (ArePagesOf groups) long (laws.held groups list spelled);
+      is = ap (λ n. take n (unpacked groups)) (sym long) ∙ laws.list groups list spelled
+          ∙ rows_in-bins column stretch table few;
+    }
 
 -- so are those of the first list
-pub first_list : ((list : List Bool) (k : ℕ) → group_count (length list) ≤ k → group_at list k ≡ 0)
-    → (column : Column) (table : List Row) (of : ℕ → Stretch) (first after : ℕ) (lists : List (List ℕ))
-    (groups : List ℕ) → AreWritten (map (row_bin column) table) of (page_count (length table)) first after lists
-    → (of first).after ≤ 255 → 0 < length lists → groups ≡ get_or lists 0 groups
-    → SpellPages groups (map (is_in_bins column (of first)) table)
-first_list past column table of first after lists groups are few some is =
+pub IsMade-first : PageLaws → (column : Column) (table : List Row) (of : ℕ → Stretch) (first end : ℕ)
+    (lists : List (List ℕ)) (groups : List ℕ)
+    → AreWritten (map (row_bin column) table) of (page_count (length table)) first end lists → (of first).after ≤ 255
+    → 0 < length lists → groups ≡ get_or lists 0 groups
+    → IsMade (length table) groups (map (is_in_bins column (of first)) table)
+IsMade-first laws column table of first end lists groups are few some is =
     let here : first + 0 ≡ first = omega arith in
     let own : groups ≡ get_or lists 0 [] = is ∙ get_or_default lists 0 groups [] some in
-    live_pages past column table (of first) groups few (rw own (rw here at (are.each 0 some)))
+    IsMade-all laws column table (of first) groups few (rw own (rw here at (are.each 0 some)))

@@ -109,7 +109,8 @@ impl Keys {
     }
 }
 
-/// The key pages of a table, by their rests. It takes one pass over the rows, and a sort where their keys do not rise.
+/// The key pages of a table, by their rests. No two live rows have one key. It takes two passes over the rows, of which
+/// one counts how much room each page takes, and a sort of each page whose keys do not rise.
 pub fn key_pages(alloc: Global, table: &Table) -> Result<Vec<Content>, Memory>
     requires { HasDistinctLiveKeys table.now }
     ensures { IfOk result (λ pages. AreContents unit.Keys table.now 64 pages.items) }

@@ -1,4 +1,5 @@
-//! The live rows and the bins of all columns, made in one pass over the table.
+//! The live rows, the bins of all columns and their unions, made page by page in one pass over the table: a page of a
+//! column is read into its tile, and each list takes its groups from there.
 ghost use Rattle.std.specs.Prelude.{◌≡◌, length, IfOk};
 ghost use Rattle.wah_words.specs.Place.{page_count};
 ghost use Rattle.unit_version.specs.Columns.{AreColumns, AreOfColumn, HaveAllPages, live_rows};
@@ -41,8 +42,8 @@ struct Writers {
     status: ColumnWriter,
 }
 
-/// The live rows and the bins of all columns. It takes one pass over the rows, and room for a word for each bin and
-/// each 31 rows.
+/// The live rows, the bins of all columns and their unions. It takes one pass over the rows, and room for a word for
+/// each bin or union and each 31 rows.
 pub(crate) fn column_contents(alloc: Global, table: &Table) -> Result<Columns, Memory>
     ensures { IfOk result (AreColumns table.now) }
 {
@@ -57,7 +58,8 @@ pub(crate) fn column_contents(alloc: Global, table: &Table) -> Result<Columns, M
     })
 }
 
-// All pages of all columns. The rows of a page are near for all columns but the first.
+// All pages of all columns. The rows of a page are near for all columns but the first, and the live rows are those of
+// either status.
 fn written(alloc: Global, table: &Table) -> Result<Writers, Memory>
     ensures { IfOk result (HaveAllPages table.now (page_count (length table.now))) }
 {
