@@ -1,0 +1,16 @@
+-- Contents that a patch brings to a front.
+use Rattle.std.specs.Prelude.{◌≡◌, ℕ, ◌≤◌, List, length, take}
+use Rattle.cubit_base.specs.History.{after}
+use Rattle.cubit_base.specs.declared.delta.Delta.{Delta}
+use Rattle.commit_log.specs.Log.{Terms}
+use Rattle.unit_version.specs.Content.{content_of}
+use Rattle.unit_version.specs.declared.unit.Unit.{Unit as IndexUnit}
+use Rattle.unit_version.specs.declared.content.Content.{Content}
+
+-- the content is the unit's after a prefix of the log that has the least length at least
+pub record IsContentSince (terms : Terms) (log : List Delta) (least : ℕ) (unit : IndexUnit) (content : Content)
+    : Type 0 where
+  pub len : ℕ
+  pub since : least ≤ len
+  pub within : len ≤ length log
+  pub is : content ≡ content_of unit (after terms.base (take len log))
