@@ -40,6 +40,10 @@ passes IsLive tuple = is_some tuple
 passes (IsInBins column stretch) None = false
 passes (IsInBins column stretch) (Some t) = in_stretch stretch (tuple_bin column t)
 
+-- which rows of a table pass
+abbrev pub bits_by : RowTest → List Row → List Bool
+bits_by test table = map (λ row. passes test row.1) table
+
 -- the truth value of a row in groups
 abbrev pub row_in : List ℕ → ℕ → Bool
 row_in groups row = group_row (slice_index groups (row / 31)) (row % 31)

@@ -1,7 +1,7 @@
 -- Units that are held one after another.
-use Rattle.std.specs.Prelude.{◌≡◌, ℕ, ◌+◌, ◌*◌, ◌≤◌, List, length, slice_get, Option, Some, None}
+use Rattle.std.specs.Prelude.{◌≡◌, ℕ, ◌+◌, ◌*◌, ◌≤◌, List, length, slice_get, All, Option, Some, None, IfSome}
 use Rattle.cubit_base.specs.declared.delta.Delta.{Delta}
-use Rattle.commit_log.specs.Log.{Terms}
+use Rattle.commit_log.specs.Log.{Terms, Stands}
 use Rattle.unit_version.specs.declared.unit.Unit.{Unit as IndexUnit}
 use Rattle.version_store.specs.Store.{Store, Gives, RoseBy}
 use Rattle.version_store.specs.Version.{Version, Fits}
@@ -20,6 +20,11 @@ abbrev pub AreFitting : {Claim : Type 0} → Terms → List Delta → List Index
     List (Option Claim) → Type 0
 AreFitting {Claim} terms log units shown claims = (i : ℕ) (unit : IndexUnit) (claim : Claim) →
     slice_get units i ≡ Some unit → slice_get claims i ≡ Some (Some claim) → Fits terms log unit (shown claim)
+
+-- each claim shows a version at a front of the log
+abbrev pub AreAtFronts : {Claim : Type 0} → Terms → List Delta → (Claim → Version) → List (Option Claim) → Type 0
+AreAtFronts terms log shown claims =
+    All (λ claim. IfSome claim (λ c. Stands terms log (shown c).front)) claims
 
 -- the units were held once each
 pub record HoldsEach {Claim : Type 0} (terms : Terms) (log : List Delta) (tries : ℕ) (units : List IndexUnit)

@@ -1,5 +1,5 @@
 -- What comes of taking versions at one front.
-use Rattle.std.specs.Prelude.{◌≡◌, ℕ, zero, ◌+◌, ◌-◌, ◌*◌, ◌^◌, ◌≤◌, List, length, map, min, slice_get, Contains, Option, Some, None, IfSome, Result, Ok, Err, if◌then◌else◌}
+use Rattle.std.specs.Prelude.{◌≡◌, ℕ, zero, suc, ◌+◌, ◌-◌, ◌*◌, ◌≤◌, List, length, map, min, slice_get, Contains, Option, Some, None, IfSome, Result, Ok, Err, if◌then◌else◌}
 use Rattle.std.specs.List.{fold}
 use Rattle.std.specs.Option.{option_map}
 use Rattle.std.specs.declared.alloc.AllocError.{AllocError}
@@ -31,8 +31,9 @@ abbrev pub least_length : ℕ → List (Option Version) → ℕ
 least_length first versions = fold (λ least version. min least (length_of version)) first versions
 
 -- a count that is kept in 64 bits, after so many more: at its last value it stays
-abbrev pub raised_by : ℕ → ℕ → ℕ
-raised_by n count = min (count + n) (2 ^ 64 - 1)
+unfoldable pub raised_by : ℕ → ℕ → ℕ
+raised_by zero count = count
+raised_by (suc n) count = raised (raised_by n count)
 
 -- the handle after walks that gave so many entries
 abbrev pub with_walks : ℕ → Handle → Handle

@@ -1,11 +1,23 @@
 //! Rows set in groups.
 ghost use Rattle.std.specs.Prelude.{◌≡◌, ◌+◌, ◌*◌, ◌^◌, ◌==◌, ◌<◌, ◌≤◌, ℕ, All, length, if◌then◌else◌};
+ghost use Rattle.wah_words.specs.Group.{group_row};
 ghost use Rattle.front_patch.specs.Bits.{row_in, shown_by};
 ghost use Rattle.front_patch.specs.RowStates.{last_state};
 
 use crate::row_state::RowState;
 use crate::row_test::RowTest;
-use wah_words::GROUP_ROWS;
+
+// A group with this truth value in one place.
+#[inline(always)]
+fn placed(group: u32, place: u32, value: bool) -> u32
+    requires within { place < 31 }
+    requires group { group < 2 ^ 31 }
+    ensures group { result < 2 ^ 31 }
+    ensures rows { (other : ℕ) → other < 31 →
+        group_row result other ≡ (if other == place then value else group_row group other) }
+{
+    group & !(1 << place) | u32::from(value) << place
+}
 
 // Gives one row of the groups a truth value.
 #[inline(always)]
@@ -15,9 +27,8 @@ fn set_row(groups: &mut [u32], row: usize, value: bool)
     ensures groups { All (λ group. group < 2 ^ 31) groups.new }
     ensures rows { (other : ℕ) → row_in groups.new other ≡ (if other == row then value else row_in groups.old other) }
 {
-    let place = row % GROUP_ROWS as usize;
-    let group = &mut groups[row / GROUP_ROWS as usize];
-    *group = *group & !(1 << place) | u32::from(value) << place;
+    let at = row / 31;
+    groups[at] = placed(groups[at], (row % 31) as u32, value);
 }
 
 /// Gives each row that has a state what the test says of its last one; the groups begin with the first row.

@@ -1,5 +1,5 @@
 //! The claims of a plan's units.
-ghost use Rattle.std.specs.Prelude.{◌≡◌, ◌+◌, ◌-◌, ◌*◌, ◌≤◌, ◌<◌, [], length, map, All, AllPairs, vec_capacity};
+ghost use Rattle.std.specs.Prelude.{◌≡◌, ◌+◌, ◌-◌, ◌*◌, ◌≤◌, ◌<◌, ◌⊎◌, [], length, map, min, IfSome, All, AllPairs, vec_capacity};
 ghost use Rattle.std.specs.Option.{option_map};
 ghost use Rattle.commit_log.specs.Log.{Stands};
 ghost use Rattle.commit_log.specs.Handle.{SeesMore, Grows, mine};
@@ -9,7 +9,7 @@ ghost use Rattle.version_store.specs.Version.{Fits};
 ghost use Rattle.version_store.specs.Place.{place_of};
 ghost use Rattle.front_patch.specs.Taken.{AreGiven, claim_count, fallback_count};
 ghost use Rattle.front_patch.specs.Takes.{least_length, length_of};
-ghost use Rattle.front_patch.specs.Holding.{HoldsEach, HoldsOne};
+ghost use Rattle.front_patch.specs.Holding.{HoldsEach, HoldsOne, AreAtFronts};
 
 use commit_log::{CommitLog, Front};
 use cubit_base::Steps;
@@ -73,40 +73,55 @@ fn hold_one<S: VersionStore, N: Ledger>(
     }
 }
 
-/// The shortest of a first front, the fronts of the versions, and the empty one where a claim is none.
+/// The shortest of a first front and of the fronts of the versions; the empty one where the base's content serves.
 pub(crate) fn oldest<S: VersionStore>(
+    log: &S::Log,
     store: &S,
     claims: &[Option<S::Claim>],
-    start: Front,
     first: Front,
 ) -> Front
     requires given { AreGiven (S.gave store.now) claims.now }
-    requires start { start.len ≡ 0 }
+    requires first { Stands S.Log.terms (S.Log.handle log.now).seen first }
+    requires stand { AreAtFronts S.Log.terms (S.Log.handle log.now).seen (S.shown store.now) claims.now }
     ensures len { result.len ≡ least_length first.len (map (option_map (S.shown store.now)) claims.now) }
+    ensures stands { Stands S.Log.terms (S.Log.handle log.now).seen result }
 {
     let mut oldest = first;
     for claim in claims {
-        let front = match claim {
-            Some(claim) => store.front(claim),
-            None => start,
-        };
-        if front.len < oldest.len {
-            oldest = front;
-        }
+        oldest = shorter(oldest, front_of(log, store, claim));
     }
     oldest
 }
 
+// The front of what serves a unit.
+fn front_of<S: VersionStore>(log: &S::Log, store: &S, claim: &Option<S::Claim>) -> Front
+    requires given { IfSome claim.now (S.gave store.now) }
+    requires stands { IfSome claim.now (λ c. Stands S.Log.terms (S.Log.handle log.now).seen (S.shown store.now c).front) }
+    ensures len { result.len ≡ length_of (option_map (S.shown store.now) claim.now) }
+    ensures stands { Stands S.Log.terms (S.Log.handle log.now).seen result }
+{
+    match claim {
+        Some(claim) => store.front(claim),
+        None => log.start(),
+    }
+}
+
+// The shorter of two fronts.
+fn shorter(a: Front, b: Front) -> Front
+    ensures len { result.len ≡ min a.len b.len }
+    ensures one { (result ≡ a) ⊎ (result ≡ b) }
+{
+    if b.len < a.len { b } else { a }
+}
+
 /// How many units the base's content serves.
-pub(crate) fn count_fallbacks<C>(claims: &[Option<C>]) -> u32
+pub(crate) fn count_fallbacks<S: VersionStore>(claims: &[Option<S::Claim>]) -> u32
     requires { length claims.now ≤ 65_536 }
     ensures { result ≡ fallback_count claims.now }
 {
     let mut count = 0;
     for claim in claims {
-        if claim.is_none() {
-            count += 1;
-        }
+        count += u32::from(claim.is_none());
     }
     count
 }

@@ -1,7 +1,10 @@
 //! The units of a plan.
-ghost use Rattle.std.specs.Prelude.{◌≡◌, ◌++◌, Contains, Some, slice_get, IfOk, OnOk};
-ghost use Rattle.front_patch.specs.Bits.{IsBits};
-ghost use Rattle.front_patch.specs.Planned.{bins_of, units_of, is_open};
+ghost use Rattle.std.specs.Prelude.{◌≡◌, ◌-◌, ◌++◌, List, Contains, Some, slice_get, IfOk, OnOk};
+ghost use Rattle.cubit_base.specs.Table.{Row};
+ghost use Rattle.unit_version.specs.Unit.{IsUnit};
+ghost use Rattle.unit_version.specs.declared.unit.Unit.TheVariants as unit;
+ghost use Rattle.front_patch.specs.Bits.{IsBits, bits_of, bits_by};
+ghost use Rattle.front_patch.specs.Planned.{bins_of, run_of, units_of, is_open};
 
 use crate::row_test::RowTest;
 use column_bins::{Column, Plan, Stretch};
@@ -22,10 +25,18 @@ pub(crate) fn planned_units(alloc: Global, plan: &Plan, pages: u32) -> Result<Ve
     push_bins(&mut units, Column::Qty, plan.qty)?;
     push_bins(&mut units, Column::Flag, plan.flag)?;
     push_bins(&mut units, Column::Status, plan.status)?;
+    push_pages(&mut units, pages)?;
+    Ok(units)
+}
+
+// Puts so many pages behind the units.
+fn push_pages(units: &mut Vec<Unit>, pages: u32) -> Result<(), Memory>
+    ensures { OnOk result (units.new.items ≡ units.old.items ++ run_of unit.Page 0 pages) }
+{
     for page in 0..pages {
         units.push(Unit::Page(page))?;
     }
-    Ok(units)
+    Ok(())
 }
 
 // Whether no column is restricted.
@@ -43,10 +54,17 @@ fn is_open(plan: &Plan) -> bool
 fn push_bins(units: &mut Vec<Unit>, column: Column, stretch: Option<Stretch>) -> Result<(), Memory>
     ensures { OnOk result (units.new.items ≡ units.old.items ++ bins_of column stretch) }
 {
-    let Some(stretch) = stretch else {
-        return Ok(());
-    };
-    for bin in stretch.first..stretch.after {
+    match stretch {
+        Some(stretch) => push_run(units, column, stretch.first, stretch.after),
+        None => Ok(()),
+    }
+}
+
+// Puts the bins from one on, up to another, behind the units.
+fn push_run(units: &mut Vec<Unit>, column: Column, first: u8, after: u8) -> Result<(), Memory>
+    ensures { OnOk result (units.new.items ≡ units.old.items ++ run_of (unit.Bin column) first (after - first)) }
+{
+    for bin in first..after {
         units.push(Unit::Bin(column, bin))?;
     }
     Ok(())
@@ -62,7 +80,9 @@ pub(crate) fn place_in(units: &[Unit], unit: Unit) -> usize
 
 /// The test of a bitvector's rows.
 pub(crate) fn test_of(unit: Unit) -> RowTest
-    requires { IsBits unit }
+    requires unit { IsUnit 0 unit }
+    requires bits { IsBits unit }
+    ensures { (table : List Row) → bits_by result table ≡ bits_of unit table }
 {
     match unit {
         Unit::Live => RowTest::IsLive,

@@ -51,7 +51,7 @@ pub fn take<S: VersionStore, N: Ledger>(
     let mut claims = Vec::with_capacity(alloc, units.len())?;
     hold_each(log, store, &units, tries, &mut claims, steps);
     let front = log.front(steps);
-    let oldest = oldest(store, &claims, log.start(), first);
+    let oldest = oldest(log, store, &claims, first);
     let states = states_between(alloc, log, &oldest, &front, steps);
     let changed = match states {
         Ok(states) => last_states(alloc, states),
@@ -62,7 +62,7 @@ pub fn take<S: VersionStore, N: Ledger>(
             log: Snapshot::of(log),
             front,
             least: oldest.len,
-            fallbacks: count_fallbacks(&claims),
+            fallbacks: count_fallbacks::<S>(&claims),
             plan: *plan,
             pages,
             units,
