@@ -32,7 +32,7 @@ given-more gave still claims claim keeps given new =
     All-push (λ c. IfSome c still) claims claim
     (λ k d within. kept-claim gave still (get_or claims k d) keeps (given k d within)) new
 
-count-snoc : {X : Type 0} (p : X → Bool) (xs : List X) (x : X) →
+pub count-snoc : {X : Type 0} (p : X → Bool) (xs : List X) (x : X) →
     count_by p (xs ++ x ∷ []) ≡ count_by p xs + cond (p x) 1 0
 count-snoc p xs x = sum_by-append (λ y. cond (p y) 1 0) xs (x ∷ []) ∙ ap (λ n. count_by p xs + n) (zero-add (cond (p x) 1 0))
 

@@ -1,4 +1,7 @@
 mod Holding
+mod Keys
+mod Least
+mod Rising
 mod Runs
 mod Sees
 mod Setting

@@ -16,7 +16,11 @@ last_or found row states = fold (λ last s. if s.row == row then Some s.tuple el
 abbrev pub last_state : ℕ → List RowState → Option (Option TupleValue)
 last_state row states = last_or None row states
 
+-- the states are in the order of rows, one for each
+abbrev pub IsRising : List RowState → Type 0
+IsRising states = AllPairs (λ a b. a.row < b.row) states
+
 -- the last states, one for each row that has any, in the order of rows
 pub record AreLast (states last : List RowState) : Type 0 where
-  pub rising : AllPairs (λ a b. a.row < b.row) last
+  pub rising : IsRising last
   pub same : (row : ℕ) → last_state row last ≡ last_state row states

@@ -54,7 +54,7 @@ pub fn take<S: VersionStore, N: Ledger>(
     let oldest = oldest(log, store, &claims, first);
     let states = states_between(alloc, log, &oldest, &front, steps);
     let changed = match states {
-        Ok(states) => last_states(alloc, states),
+        Ok(states) => last_states(alloc, &states),
         Err(memory) => Err(memory),
     };
     match changed {

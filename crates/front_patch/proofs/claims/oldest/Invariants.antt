@@ -6,7 +6,7 @@ use Rattle.front_patch.proofs.claims.oldest.Given as goal
 
 abbrev pub invariant-loop-claim : goal.invariant-loop-claim
 invariant-loop-claim g l = record {
-  len : l.oldest.len ≡ least_length l.first.len
+  len : l.oldest.len ≡ least_length l.fn.first.len
       (map (option_map (g.S.VersionStore.shown l.store)) (take l.claim-index l.claims));
   stands : Stands g.S.Log.CommitLog.terms (g.S.Log.CommitLog.handle l.log).seen l.oldest;
 }
