@@ -1,6 +1,7 @@
 mod Holding
 mod Keys
 mod Least
+mod Patching
 mod Rising
 mod Runs
 mod Sees

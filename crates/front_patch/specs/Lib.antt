@@ -2,6 +2,7 @@ pub mod RowStates
 pub mod Bits
 pub mod PageAtFront
 pub mod Planned
+pub mod Changed
 pub mod Keys
 pub mod Patch
 pub mod Taken

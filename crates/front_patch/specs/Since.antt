@@ -1,5 +1,8 @@
 -- Contents that a patch brings to a front.
-use Rattle.std.specs.Prelude.{◌≡◌, ℕ, ◌≤◌, List, length, take}
+use Rattle.std.specs.Prelude.{◌≡◌, ℕ, ◌≤◌, List, length, take, Option}
+use Rattle.std.specs.Option.{option_and_then, unwrap_or}
+use Rattle.cubit_base.specs.Table.{Row}
+use Rattle.version_store.specs.Version.{Version}
 use Rattle.cubit_base.specs.History.{after}
 use Rattle.cubit_base.specs.declared.delta.Delta.{Delta}
 use Rattle.commit_log.specs.Log.{Terms}
@@ -14,3 +17,7 @@ pub record IsContentSince (terms : Terms) (log : List Delta) (least : ℕ) (unit
   pub since : least ≤ len
   pub within : len ≤ length log
   pub is : content ≡ content_of unit (after terms.base (take len log))
+
+-- what a version holds: its own content, or the base's, which serves also where there is no version
+abbrev pub content_by : Option Version → IndexUnit → List Row → Content
+content_by version unit table = unwrap_or (option_and_then (λ v. v.content) version) (content_of unit table)

@@ -1,5 +1,6 @@
 -- Versions of the units of a plan that a caller holds, seen at one front.
 use Rattle.std.specs.Prelude.{◌≡◌, ℕ, ◌+◌, ◌-◌, ◌*◌, ◌≤◌, ◌<◌, List, length, slice_get, count_by, is_some, is_none, All, Option, Some, None, IfSome}
+use Rattle.std.specs.Option.{option_map}
 use Rattle.cubit_base.specs.Table.{Row}
 use Rattle.cubit_base.specs.History.{after}
 use Rattle.cubit_base.specs.declared.delta.Delta.{Delta}
@@ -42,10 +43,9 @@ abbrev pub AreGiven : {Claim : Type 0} → (Claim → Type 0) → List (Option C
 AreGiven gave claims = All (λ claim. IfSome claim gave) claims
 
 -- what serves a unit: a version of it that has the least length at least, or the base's content, which has length 0
-abbrev pub Serves : {Claim : Type 0} → Terms → (Claim → Version) → List Delta → ℕ → IndexUnit → Option Claim → Type 0
-Serves terms shown log least unit None = least ≡ 0
-Serves terms shown log least unit (Some claim) =
-    Fits terms log unit (shown claim) × (least ≤ (shown claim).front.len)
+abbrev pub Serves : Terms → List Delta → ℕ → IndexUnit → Option Version → Type 0
+Serves terms log least unit None = least ≡ 0
+Serves terms log least unit (Some version) = Fits terms log unit version × (least ≤ version.front.len)
 
 -- it was taken over this store, of which these claims were given and show these versions, and over this base
 pub record IsTakenOver {Claim : Type 0} (terms : Terms) (gave : Claim → Type 0) (shown : Claim → Version)
@@ -55,5 +55,5 @@ pub record IsTakenOver {Claim : Type 0} (terms : Terms) (gave : Claim → Type 0
       IsUnit (page_count base.row_room) unit
   pub serve : (i : ℕ) (unit : IndexUnit) (claim : Option Claim) →
       slice_get (units_of taken.plan taken.pages) i ≡ Some unit → slice_get taken.claims i ≡ Some claim →
-      Serves terms shown taken.seen taken.least unit claim
+      Serves terms taken.seen taken.least unit (option_map shown claim)
   pub table : base.table ≡ terms.base

@@ -6,7 +6,9 @@ ghost use Rattle.commit_log.specs.Handle.{SeesMore, Grows, mine};
 ghost use Rattle.unit_version.specs.Unit.{IsUnit};
 ghost use Rattle.version_store.specs.Store.{Asks, KeepsClaims};
 ghost use Rattle.version_store.specs.Version.{Fits};
+ghost use Rattle.wah_words.specs.Place.{page_count};
 ghost use Rattle.version_store.specs.Place.{place_of};
+ghost use Rattle.front_patch.specs.Since.{content_by};
 ghost use Rattle.front_patch.specs.Taken.{AreGiven, claim_count, fallback_count};
 ghost use Rattle.front_patch.specs.Takes.{least_length, length_of};
 ghost use Rattle.front_patch.specs.Holding.{HoldsEach, HoldsOne, AreAtFronts};
@@ -14,7 +16,7 @@ ghost use Rattle.front_patch.specs.Holding.{HoldsEach, HoldsOne, AreAtFronts};
 use commit_log::{CommitLog, Front};
 use cubit_base::Steps;
 use std::sync::ledger::Ledger;
-use unit_version::Unit;
+use unit_version::{Base, Content, Unit};
 use version_store::VersionStore;
 
 /// Holds each of the units once, and puts its claim, or none where the hold was given up, behind the claims, which have
@@ -112,6 +114,26 @@ fn shorter(a: Front, b: Front) -> Front
     ensures one { (result ≡ a) ⊎ (result ≡ b) }
 {
     if b.len < a.len { b } else { a }
+}
+
+/// What serves a unit: the content of the version that its claim shows, or the base's.
+pub(crate) fn content_by<'t, S: VersionStore>(
+    store: &'t S,
+    base: &'t Base,
+    claim: &'t Option<S::Claim>,
+    unit: Unit,
+) -> &'t Content
+    requires given { IfSome claim.now (S.gave store.now) }
+    requires unit { IsUnit (page_count base.now.row_room) unit }
+    ensures { result.now ≡ content_by (option_map (S.shown store.now) claim.now) unit base.now.table }
+{
+    match claim {
+        Some(claim) => match store.content(claim) {
+            Some(content) => content,
+            None => base.content(unit),
+        },
+        None => base.content(unit),
+    }
 }
 
 /// How many units the base's content serves.

@@ -4,6 +4,7 @@
 mod bits;
 mod claims;
 mod page;
+mod patches;
 mod planned;
 mod row_state;
 mod row_test;

@@ -15,10 +15,11 @@ ghost use Rattle.front_patch.specs.Taken.{IsTakenOver, AreGiven, table_at, patch
 ghost use Rattle.front_patch.specs.Takes.{KeepsVersions};
 
 use crate::bits::set_states;
-use crate::claims::leave_each;
+use crate::claims::{content_by, leave_each};
 use crate::page::PageAtFront;
 use crate::planned::{place_in, test_of};
 use crate::row_state::{RowState, states_among};
+use crate::patches::contents_since;
 use crate::row_test::RowTest;
 use column_bins::{Column, Plan, Stretch};
 use commit_log::{CommitLog, Front};
@@ -194,14 +195,8 @@ impl<S: VersionStore> Taken<S> {
         requires place { slice_get (units_of self.now.plan self.now.pages) place ≡ Some unit }
         ensures { IsContentSince S.Log.terms self.now.seen self.now.least unit result.now }
     {
-        let content = match &self.claims[place] {
-            Some(claim) => store.content(claim),
-            None => None,
-        };
-        match content {
-            Some(content) => content,
-            None => base.content(unit),
-        }
+        contents_since();
+        content_by(store, base, &self.claims[place], unit)
     }
 
     // The bitvector that serves a unit.
