@@ -1,3 +1,4 @@
+mod Groups
 mod Holding
 mod Keys
 mod Least

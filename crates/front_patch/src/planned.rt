@@ -1,5 +1,5 @@
 //! The units of a plan.
-ghost use Rattle.std.specs.Prelude.{◌≡◌, ◌-◌, ◌++◌, List, Contains, Some, slice_get, IfOk, OnOk};
+ghost use Rattle.std.specs.Prelude.{◌≡◌, ◌-◌, ◌<◌, ◌++◌, List, Contains, Some, slice_get, IfOk, OnOk};
 ghost use Rattle.cubit_base.specs.Table.{Row};
 ghost use Rattle.unit_version.specs.Unit.{IsUnit};
 ghost use Rattle.unit_version.specs.declared.unit.Unit.TheVariants as unit;
@@ -76,6 +76,16 @@ pub(crate) fn place_in(units: &[Unit], unit: Unit) -> usize
     ensures { slice_get units.now result ≡ Some unit }
 {
     units.iter().position(|other| *other == unit).unwrap()
+}
+
+/// The place of a page among the units of a plan with so many pages.
+pub(crate) fn page_place(plan: &Plan, units: &[Unit], pages: u32, page: u32) -> usize
+    requires units { units.now ≡ units_of plan.now pages }
+    requires page { page < pages }
+    ensures { slice_get (units_of plan.now pages) result ≡ Some (unit.Page page) }
+{
+    let _ = plan;
+    units.len() - pages as usize + page as usize
 }
 
 /// The test of a bitvector's rows.

@@ -1,25 +1,29 @@
 //! Versions that are held, seen at one front.
-ghost use Rattle.std.specs.Prelude.{◌≡◌, ◌+◌, ◌*◌, ◌^◌, ◌<◌, ◌≤◌, ℕ, true, map, slice_get, All, Contains, Some};
+ghost use Rattle.std.specs.Prelude.{◌≡◌, ◌+◌, ◌*◌, ◌^◌, ◌||◌, ◌<◌, ◌≤◌, ℕ, true, map, slice_get, All, Contains, Some, IfSome, IfNone};
 ghost use Rattle.unit_version.specs.declared.content.Content.TheVariants.{Bits};
+ghost use Rattle.unit_version.specs.declared.content.Content.TheVariants as content;
+ghost use Rattle.unit_version.specs.declared.unit.Unit.TheVariants as unit;
 ghost use Rattle.unit_version.specs.declared.unit.Unit.TheVariants.{Bin};
 ghost use Rattle.front_patch.specs.PageAtFront.{tuple_here};
 ghost use Rattle.cubit_base.specs.LiveRow.{tuple_at};
 ghost use Rattle.fence_window.specs.Window.{IsWindow};
 ghost use Rattle.column_bins.specs.Plan.{stretch_of};
-ghost use Rattle.unit_version.specs.Content.{is_in_bins};
+ghost use Rattle.unit_version.specs.Content.{is_in_bins, one_bin};
 ghost use Rattle.version_store.specs.Store.{Store};
-ghost use Rattle.front_patch.specs.Bits.{IsBits, bits_of, AreGroups};
+ghost use Rattle.front_patch.specs.Bits.{IsBits, bits_of, AreGroups, passes, row_in};
+ghost use Rattle.front_patch.specs.Changed.{IsSteady};
+ghost use Rattle.front_patch.specs.declared.row_test.RowTest.TheVariants.{IsInBins};
 ghost use Rattle.front_patch.specs.Planned.{HasBin, units_of};
 ghost use Rattle.front_patch.specs.Since.{IsContentSince};
 ghost use Rattle.front_patch.specs.Taken.{IsTakenOver, AreGiven, table_at, patched_by, claim_count, fallback_count};
 ghost use Rattle.front_patch.specs.Takes.{KeepsVersions};
 
-use crate::bits::set_states;
+use crate::bits::{first_row, or_pages, set_changed, show_page};
 use crate::claims::{content_by, leave_each};
 use crate::page::PageAtFront;
-use crate::planned::{place_in, test_of};
+use crate::planned::{page_place, place_in, test_of};
 use crate::row_state::{RowState, states_among};
-use crate::patches::contents_since;
+use crate::patches::{changed_rows, contents_since};
 use crate::row_test::RowTest;
 use column_bins::{Column, Plan, Stretch};
 use commit_log::{CommitLog, Front};
@@ -105,8 +109,10 @@ impl<S: VersionStore> Taken<S> {
         requires bits { IsBits unit }
         ensures { IsWindow (bits_of unit (table_at S.Log.terms self.now)) page out.new }
     {
-        self.bits(store, base, unit).window(page, out);
-        self.set_changed(test_of(unit), page, out);
+        changed_rows();
+        let test = test_of(unit);
+        show_page(self.bits(store, base, unit), page, out);
+        set_changed(&self.changed, test, page, out);
     }
 
     /// Writes the groups of 32 pages from the first on, in which the rows are true that are live at the front and have
@@ -125,12 +131,12 @@ impl<S: VersionStore> Taken<S> {
             Contains (units_of self.now.plan self.now.pages) (Bin column bin) }
         ensures { AreGroups (map (is_in_bins column stretch) (table_at S.Log.terms self.now)) first out.new }
     {
+        changed_rows();
         out.fill(0);
         for bin in stretch.first..stretch.after {
-            let bits = self.bits(store, base, Unit::Bin(column, bin));
-            bits.or_into(first, out);
+            self.or_bin(store, base, column, bin, first, out);
         }
-        self.set_changed(RowTest::IsInBins(column, stretch), first, out);
+        set_changed(&self.changed, RowTest::IsInBins(column, stretch), first, out);
     }
 
     /// The tuples of a page at the front. It takes no memory.
@@ -140,7 +146,7 @@ impl<S: VersionStore> Taken<S> {
         ensures { (at : ℕ) → at < 3_968 →
             tuple_here result at ≡ tuple_at (table_at S.Log.terms self.now) (3_968 * page + at) }
     {
-        let first = u64::from(PAGE_ROWS) * u64::from(page);
+        let first = first_row(page);
         let held = self.held_page(store, base, page);
         let changed = states_among(&self.changed, first, u64::from(PAGE_ROWS));
         PageAtFront {
@@ -215,28 +221,40 @@ impl<S: VersionStore> Taken<S> {
     // The page that serves the rows of a page of tuples; none where there were no such rows when it was taken.
     fn held_page<'t>(&'t self, store: &'t S, base: &'t Base, page: u32) -> Option<&'t Page>
         requires over { IsTakenOver S.Log.terms (S.gave store.now) (S.shown store.now) base.now self.now }
+        ensures some { IfSome result (λ held.
+            IsContentSince S.Log.terms self.now.seen self.now.least (unit.Page page) (content.Page held.now)) }
+        ensures none { IfNone result (self.now.pages ≤ page) }
     {
         if self.pages <= page {
             return None;
         }
-        let place = self.units.len() - self.pages as usize + page as usize;
+        let place = page_place(&self.plan, &self.units, self.pages, page);
         match self.content(store, base, Unit::Page(page), place) {
             Content::Page(page) => Some(page),
             _ => unreachable!(),
         }
     }
 
-    // Gives the rows that were changed what the test says of them; the groups begin with those of a page.
-    fn set_changed(&self, test: RowTest, page: u32, groups: &mut [u32])
-        requires { All (λ group. group < 2 ^ 31) groups.old }
+    // Puts the groups of 32 pages of a bin into others, by or: what each row that did not change since the oldest
+    // version has.
+    fn or_bin(
+        &self,
+        store: &S,
+        base: &Base,
+        column: Column,
+        bin: u8,
+        first: u32,
+        out: &mut [u32; BLOCK_GROUPS],
+    )
+        requires over { IsTakenOver S.Log.terms (S.gave store.now) (S.shown store.now) base.now self.now }
+        requires planned { Contains (units_of self.now.plan self.now.pages) (Bin column bin) }
+        requires groups { All (λ group. group < 2 ^ 31) out.old }
+        ensures groups { All (λ group. group < 2 ^ 31) out.new }
+        ensures rows { (row : ℕ) → row < 126_976 →
+            IsSteady S.Log.terms self.now.seen self.now.least (3_968 * first + row) →
+            row_in out.new row ≡ (row_in out.old row
+            || passes (IsInBins column (one_bin bin)) (tuple_at (table_at S.Log.terms self.now) (3_968 * first + row))) }
     {
-        let first = u64::from(PAGE_ROWS) * u64::from(page);
-        let rows = 31 * groups.len() as u64;
-        set_states(
-            groups,
-            first,
-            test,
-            states_among(&self.changed, first, rows),
-        );
+        or_pages(self.bits(store, base, Unit::Bin(column, bin)), first, out);
     }
 }
