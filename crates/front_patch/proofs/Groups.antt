@@ -4,6 +4,7 @@ use Rattle.std.specs.Prelude.{bit_or}
 use Rattle.std.specs.Int.{bit_at}
 use Rattle.std.specs.Option.{unwrap_or, option_map, option_and_then}
 use Rattle.std.proofs.lemmas.Bool.{cases_eq, eqb-true, eqb-false, eq-eqb, ne_eqb}
+use Rattle.std.proofs.lemmas.List.{get_or_default}
 use Rattle.std.proofs.lemmas.Nat.{or_lt}
 use Rattle.std.proofs.lemmas.Nat.Bits.{bit_at-lt, bit_at_or, same_from_bits_below}
 use Rattle.wah_words.specs.Group.{group_at, group_row}
@@ -99,3 +100,25 @@ or-bits a (suc (suc b)) low-a low-b = absurd (omega (arith, low-b))
 pub row-of-or : (a b place : ℕ) → group_row (bit_or a b) place ≡ (group_row a place || group_row b place)
 row-of-or a b place =
     ap (λ bit. eqb bit 1) (bit_at_or a b place) ∙ or-bits (bit_at a place) (bit_at b place) (bit_at-lt a place) (bit_at-lt b place)
+
+-- groups into which those of a list were put by or
+pub ors-small : (list : List Bool) (page n : ℕ) (old new : List ℕ) →
+    ((list : List Bool) (k : ℕ) → group_at list k < 2 ^ 31) → All (λ group. group < 2 ^ 31) old → length old ≡ n →
+    length new ≡ n → ((i : ℕ) → i < n → get_or new i 0 ≡ bit_or (get_or old i 0) (group_at list (128 * page + i))) →
+    All (λ group. group < 2 ^ 31) new
+ors-small list page n old new low small long-old long-new are k d within =
+    let is = get_or_default new k d 0 within ∙ are k (omega (arith, within, long-new)) in
+    let bound = or_lt 31 (get_or old k 0) (group_at list (128 * page + k)) (small k 0 (omega (arith, within, long-new, long-old)))
+        (low list (128 * page + k)) in
+    omega (arith, is, bound)
+
+pub ors-rows : (list : List Bool) (page n : ℕ) (old new : List ℕ) →
+    ((list : List Bool) (k place : ℕ) → place < 31 → get_or list (31 * k + place) false ≡ group_row (group_at list k) place) →
+    ((i : ℕ) → i < n → get_or new i 0 ≡ bit_or (get_or old i 0) (group_at list (128 * page + i))) → (row : ℕ) →
+    row < 31 * n → row_in new row ≡ (row_in old row || get_or list (3968 * page + row) false)
+ors-rows list page n old new row-at are row within =
+    let number : 31 * (128 * page + row / 31) + row % 31 ≡ 3968 * page + row = omega arith in
+    ap (λ g. group_row g (row % 31)) (are (row / 31) (omega (arith, within)))
+    ∙ row-of-or (get_or old (row / 31) 0) (group_at list (128 * page + row / 31)) (row % 31)
+    ∙ ap (λ b. row_in old row || b)
+    (sym (row-at list (128 * page + row / 31) (row % 31) (omega arith)) ∙ ap (λ n. get_or list n false) number)

@@ -7,6 +7,7 @@ mod Rising
 mod Runs
 mod Sees
 mod Setting
+mod Shown
 mod Slots
 mod States
 mod Walks

@@ -40,3 +40,7 @@ all-at P xs i x all at =
 -- a list with no item has none at any place
 pub none-at : {X : Type 0} {P : Type 0} (i : ℕ) (x : X) → slice_get [] i ≡ Some x → P
 none-at i x at = absurd (omega (arith, slice_get_within [] i x at))
+
+-- where an item stands
+pub contained-at : {X : Type 0} (xs : List X) (x : X) → Contains xs x → (i : ℕ) × (slice_get xs i ≡ Some x)
+contained-at xs x has = (has.0, slice_get-get_or xs has.0 x has.1 ∙ ap Some has.2)

@@ -66,6 +66,14 @@ pub(crate) fn show_page(bits: &Fenced, page: u32, out: &mut [u32; PAGE_GROUPS])
     bits.window(page, out);
 }
 
+/// Writes 32 pages in which no row is true.
+pub(crate) fn show_none(out: &mut [u32; BLOCK_GROUPS])
+    ensures groups { All (λ group. group < 2 ^ 31) out.new }
+    ensures rows { (row : ℕ) → row_in out.new row ≡ false }
+{
+    out.fill(0);
+}
+
 /// Puts the groups of 32 pages of a bitvector into others, by or.
 pub(crate) fn or_pages(bits: &Fenced, first: u32, out: &mut [u32; BLOCK_GROUPS])
     requires { All (λ group. group < 2 ^ 31) out.old }

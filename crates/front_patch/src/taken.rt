@@ -14,11 +14,12 @@ ghost use Rattle.front_patch.specs.Bits.{IsBits, bits_of, AreGroups, passes, row
 ghost use Rattle.front_patch.specs.Changed.{IsSteady};
 ghost use Rattle.front_patch.specs.declared.row_test.RowTest.TheVariants.{IsInBins};
 ghost use Rattle.front_patch.specs.Planned.{HasBin, units_of};
+ghost use Rattle.front_patch.specs.Patch.{IsPatch};
 ghost use Rattle.front_patch.specs.Since.{IsContentSince};
 ghost use Rattle.front_patch.specs.Taken.{IsTakenOver, AreGiven, table_at, patched_by, claim_count, fallback_count};
 ghost use Rattle.front_patch.specs.Takes.{KeepsVersions};
 
-use crate::bits::{first_row, or_pages, set_changed, show_page};
+use crate::bits::{first_row, or_pages, set_changed, show_none, show_page};
 use crate::claims::{content_by, leave_each};
 use crate::page::PageAtFront;
 use crate::planned::{page_place, place_in, test_of};
@@ -112,7 +113,7 @@ impl<S: VersionStore> Taken<S> {
         changed_rows();
         let test = test_of(unit);
         show_page(self.bits(store, base, unit), page, out);
-        set_changed(&self.changed, test, page, out);
+        set_changed(self.changed(), test, page, out);
     }
 
     /// Writes the groups of 32 pages from the first on, in which the rows are true that are live at the front and have
@@ -132,11 +133,11 @@ impl<S: VersionStore> Taken<S> {
         ensures { AreGroups (map (is_in_bins column stretch) (table_at S.Log.terms self.now)) first out.new }
     {
         changed_rows();
-        out.fill(0);
+        show_none(out);
         for bin in stretch.first..stretch.after {
             self.or_bin(store, base, column, bin, first, out);
         }
-        set_changed(&self.changed, RowTest::IsInBins(column, stretch), first, out);
+        set_changed(self.changed(), RowTest::IsInBins(column, stretch), first, out);
     }
 
     /// The tuples of a page at the front. It takes no memory.
@@ -148,7 +149,7 @@ impl<S: VersionStore> Taken<S> {
     {
         let first = first_row(page);
         let held = self.held_page(store, base, page);
-        let changed = states_among(&self.changed, first, u64::from(PAGE_ROWS));
+        let changed = states_among(self.changed(), first, u64::from(PAGE_ROWS));
         PageAtFront {
             page: held,
             first,
@@ -193,6 +194,14 @@ impl<S: VersionStore> Taken<S> {
             changed: _,
         } = self;
         leave_each(store, claims);
+    }
+
+    // The last states of the rows that were changed since the oldest version.
+    fn changed(&self) -> &[RowState]
+        ensures { IsPatch S.Log.terms self.now.seen self.now.front self.now.least self.now.plan self.now.pages
+            result.now }
+    {
+        &self.changed
     }
 
     // What serves a unit.
