@@ -1,7 +1,9 @@
+mod Climbing
 mod Groups
 mod Holding
 mod Keys
 mod Least
+mod Pages
 mod Patching
 mod Rising
 mod Runs

@@ -33,8 +33,12 @@ abbrev pub is_open : Plan → Bool
 is_open plan =
     is_none plan.ship && is_none plan.disc && is_none plan.qty && is_none plan.flag && is_none plan.status
 
--- the units of a plan: the live rows where no column is restricted, the bins of its stretches, and so many pages
-abbrev pub units_of : Plan → ℕ → List IndexUnit
-units_of plan pages =
+-- the bitvectors that a plan needs: the live rows where no column is restricted, and the bins of its stretches
+abbrev pub bitvectors_of : Plan → List IndexUnit
+bitvectors_of plan =
     (if is_open plan then Live ∷ [] else []) ++ bins_of Ship plan.ship ++ bins_of Disc plan.disc
-    ++ bins_of Qty plan.qty ++ bins_of Flag plan.flag ++ bins_of Status plan.status ++ run_of Page 0 pages
+    ++ bins_of Qty plan.qty ++ bins_of Flag plan.flag ++ bins_of Status plan.status
+
+-- the units of a plan: these, and so many pages
+abbrev pub units_of : Plan → ℕ → List IndexUnit
+units_of plan pages = bitvectors_of plan ++ run_of Page 0 pages

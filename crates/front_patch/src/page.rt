@@ -1,5 +1,5 @@
 //! The tuples of a page at a front.
-ghost use Rattle.std.specs.Prelude.{◌≡◌, ◌+◌, ◌<◌, AllPairs, None, slice_index_or};
+ghost use Rattle.std.specs.Prelude.{◌≡◌, ◌+◌, ◌^◌, ◌<◌, AllPairs, None, slice_index_or};
 ghost use Rattle.std.specs.Option.{option_and_then};
 
 use crate::row_state::{RowState, state_of};
@@ -16,6 +16,7 @@ pub struct PageAtFront<'t> {
     pub(crate) first: u64,
     pub(crate) changed: &'t [RowState],
     ghost rising: { AllPairs (λ a b. a.row < b.row) changed.now },
+    ghost end: { first + 3_968 < 2 ^ 64 },
 }
 
 impl<'t> PageAtFront<'t> {

@@ -33,7 +33,7 @@ use fence_window::{BLOCK_GROUPS, Fenced, PAGE_GROUPS, PAGE_ROWS};
 use std::marker::Model;
 use std::snapshot::Snapshot;
 use std::sync::ledger::Ledger;
-use unit_version::{Base, Content, Page, Unit};
+use unit_version::{Base, Content, Page, Unit, laws};
 use version_store::VersionStore;
 
 /// Versions of the units of a plan that a caller holds, and the rows that were changed since the oldest of them. It has
@@ -147,6 +147,8 @@ impl<S: VersionStore> Taken<S> {
         ensures { (at : ℕ) → at < 3_968 →
             tuple_here result at ≡ tuple_at (table_at S.Log.terms self.now) (3_968 * page + at) }
     {
+        changed_rows();
+        laws::tuples();
         let first = first_row(page);
         let held = self.held_page(store, base, page);
         let changed = states_among(self.changed(), first, u64::from(PAGE_ROWS));
