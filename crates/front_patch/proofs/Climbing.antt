@@ -74,7 +74,7 @@ climbs-bins plan column (Some s) fits is =
     (omega arith))
     (cases_lt s.first s.after)
 
-climbs-live : (open : Bool) → Climbs 0 (if open then Live ∷ [] else []) 1
+climbs-live : (none : Bool) → Climbs 0 (if none then Live ∷ [] else []) 1
 climbs-live true = (omega arith, omega arith)
 climbs-live false = omega arith
 
@@ -145,7 +145,7 @@ all-bins pages plan column (Some s) fits is =
     subst (λ n. All (IsUnit pages) (run_of (Bin column) s.first n)) (sym n) (All-nil (IsUnit pages)))
     (cases_lt s.first s.after)
 
-all-live : (pages : ℕ) (open : Bool) → All (IsUnit pages) (if open then Live ∷ [] else [])
+all-live : (pages : ℕ) (none : Bool) → All (IsUnit pages) (if none then Live ∷ [] else [])
 all-live pages true = All-cons (IsUnit pages) Live [] tt (All-nil (IsUnit pages))
 all-live pages false = All-nil (IsUnit pages)
 

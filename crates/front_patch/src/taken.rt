@@ -1,5 +1,5 @@
 //! Versions that are held, seen at one front.
-ghost use Rattle.std.specs.Prelude.{◌≡◌, ◌+◌, ◌*◌, ◌^◌, ◌||◌, ◌<◌, ◌≤◌, ℕ, true, map, slice_get, All, Contains, Some, IfSome, IfNone};
+ghost use Rattle.std.specs.Prelude.{◌≡◌, ◌+◌, ◌*◌, ◌^◌, ◌||◌, ◌<◌, ◌≤◌, ℕ, true, map, slice_get, length, All, Contains, Some, IfSome, IfNone};
 ghost use Rattle.unit_version.specs.declared.content.Content.TheVariants.{Bits};
 ghost use Rattle.unit_version.specs.declared.content.Content.TheVariants as content;
 ghost use Rattle.unit_version.specs.declared.unit.Unit.TheVariants as unit;
@@ -20,12 +20,13 @@ ghost use Rattle.front_patch.specs.Taken.{IsTakenOver, AreGiven, table_at, patch
 ghost use Rattle.front_patch.specs.Takes.{KeepsVersions};
 
 use crate::bits::{first_row, or_pages, set_changed, show_none, show_page};
-use crate::claims::{content_by, leave_each};
+use crate::claims::{content_by, count_fallbacks, leave_each};
 use crate::page::PageAtFront;
 use crate::planned::{page_place, place_in, test_of};
 use crate::row_state::{RowState, states_among};
 use crate::patches::{changed_rows, contents_since};
 use crate::row_test::RowTest;
+use crate::taking::Patch;
 use column_bins::{Column, Plan, Stretch};
 use commit_log::{CommitLog, Front};
 use cubit_base::{Steps, Tuple};
@@ -72,6 +73,43 @@ impl<S: VersionStore> Model for Taken<S> {
         IsPatch S.Log.terms (S.Log.handle t.log.value).seen t.front t.least t.plan t.pages t.changed.items
         × (t.units.items ≡ units_of t.plan t.pages) × (length t.claims.items ≡ length t.units.items)
         × (t.fallbacks ≡ fallback_count t.claims.items) };
+}
+
+/// Claims of a plan's units, and the patch that brings what they show to a front.
+pub(crate) fn taken_of<S: VersionStore>(
+    log: &S::Log,
+    plan: &Plan,
+    pages: u32,
+    units: Vec<Unit>,
+    claims: Vec<Option<S::Claim>>,
+    patch: Patch,
+) -> Taken<S>
+    requires patch { IsPatch S.Log.terms (S.Log.handle log.now).seen patch.front patch.least plan.now pages
+        patch.changed.items }
+    requires units { units.items ≡ units_of plan.now pages }
+    requires claims { length claims.items ≡ length units.items }
+    requires few { length claims.items ≤ 65_536 }
+    ensures { result ≡ record {
+      seen = (S.Log.handle log.now).seen;
+      front = patch.front;
+      least = patch.least;
+      plan = plan.now;
+      pages = pages;
+      claims = claims.items;
+    } }
+{
+    let fallbacks = count_fallbacks::<S>(&claims);
+    Taken {
+        log: Snapshot::of(log),
+        front: patch.front,
+        least: patch.least,
+        fallbacks,
+        plan: *plan,
+        pages,
+        units,
+        claims,
+        changed: patch.changed,
+    }
 }
 
 impl<S: VersionStore> Taken<S> {
