@@ -101,6 +101,7 @@ holds-none terms log tries gave shown store lent = record {
   asked = asked-none store.pages store.asked;
   lent = lent;
   losses = omega arith;
+  never_fell = omega arith;
   pages = refl;
   told_stays = refl;
 }
@@ -172,6 +173,7 @@ holds-more terms log longer tries units unit gave still shown shows store middle
           (subst (λ (n : ℕ). TellsAt n unit raised middle.asked later.asked) was.pages asks.asked);
       lent = lent-more terms longer tries unit still shows middle later claims claim one was.lent;
       losses = losses-more terms longer tries store.losses unit still shows middle later claims claim one asks.losses was.losses;
+      never_fell = omega (arith, was.never_fell, asks.losses);
       pages = asks.pages ∙ was.pages;
       told_stays = asks.told ∙ was.told_stays;
     }

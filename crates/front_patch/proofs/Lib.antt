@@ -13,4 +13,5 @@ mod Shown
 mod Slots
 mod States
 mod Walks
+mod Takings
 mod Tests

@@ -36,5 +36,6 @@ pub record HoldsEach {Claim : Type 0} (terms : Terms) (log : List Delta) (tries 
   pub asked : TellsEach store.pages units store.asked later.asked
   pub lent : later.lent ≡ claim_count claims
   pub losses : RoseBy (tries * fallback_count claims) store.losses later.losses
+  pub never_fell : store.losses ≤ later.losses
   pub pages : later.pages ≡ store.pages
   pub told_stays : later.told ≡ store.told

@@ -1,9 +1,9 @@
 //! What follows for versions that are patched. These functions do nothing: where one is called, its clauses are known.
 ghost use Rattle.std.specs.Prelude.{◌≡◌, ◌≤◌, ℕ, List, Option, None, Some, length, take};
-ghost use Rattle.cubit_base.specs.History.{after};
+ghost use Rattle.cubit_base.specs.History.{after, rows_after};
 ghost use Rattle.cubit_base.specs.LiveRow.{tuple_at};
 ghost use Rattle.cubit_base.specs.declared.delta.Delta.{Delta};
-ghost use Rattle.commit_log.specs.Log.{Terms};
+ghost use Rattle.commit_log.specs.Log.{Terms, IsLog};
 ghost use Rattle.commit_log.specs.declared.front.Front.{Front};
 ghost use Rattle.column_bins.specs.declared.plan_type.Plan.{Plan};
 ghost use Rattle.unit_version.specs.declared.unit.Unit.{Unit as IndexUnit};
@@ -32,4 +32,13 @@ pub(crate) fn changed_rows()
     cubit_base::laws::histories();
     cubit_base::laws::rows();
     commit_log::laws::stretches();
+}
+
+/// A longer prefix of a log has no fewer rows.
+pub(crate) fn rows_rise()
+    ensures { (terms : Terms) (log : List Delta) (n m : ℕ) → IsLog terms log → n ≤ m →
+        rows_after terms.base (take n log) ≤ rows_after terms.base (take m log) }
+{
+    cubit_base::laws::histories();
+    cubit_base::laws::rows();
 }

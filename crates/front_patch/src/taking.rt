@@ -13,6 +13,7 @@ ghost use Rattle.front_patch.specs.Taken.{AreGiven};
 ghost use Rattle.front_patch.specs.Takes.{Takings, SeesOnly, KeepsVersions, take_steps, pages_of, least_length, with_walks};
 
 use crate::claims::{hold_each, leave_each, oldest};
+use crate::patches::rows_rise;
 use crate::planned::planned_units;
 use crate::row_state::{RowState, last_states};
 use crate::taken::{Taken, taken_of};
@@ -49,6 +50,7 @@ pub fn take<S: VersionStore, N: Ledger>(
 {
     laws::handles();
     laws::prefixes();
+    rows_rise();
     let first = log.front(steps);
     let pages = planned_pages(plan, first.rows);
     let (units, claims) = hold_planned(alloc, log, store, plan, pages, tries, steps)?;
