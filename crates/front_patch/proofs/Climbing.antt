@@ -41,12 +41,13 @@ climbs-run : (kind : ℕ → IndexUnit) (start first n : ℕ) → ((k : ℕ) →
 unfolding run_of
 climbs-run kind start first zero places = omega arith
 climbs-run kind start first (suc n) places =
-    let at = places first in
-    (omega (arith, at),
-    climbs-higher (place_of (kind first) + 1) (run_of kind (first + 1) n) (start + (first + 1) + n) (start + first + suc n)
-    (omega arith)
-    (climbs-lower (start + (first + 1)) (place_of (kind first) + 1) (run_of kind (first + 1) n) (start + (first + 1) + n)
-    (omega (arith, at)) (climbs-run kind start (first + 1) n places)))
+    let at = places first in (
+      omega (arith, at),
+      climbs-higher (place_of (kind first) + 1) (run_of kind (first + 1) n) (start + (first + 1) + n) (start + first + suc n)
+          (omega arith)
+          (climbs-lower (start + (first + 1)) (place_of (kind first) + 1) (run_of kind (first + 1) n) (start + (first + 1) + n)
+          (omega (arith, at)) (climbs-run kind start (first + 1) n places)),
+    )
 
 -- a stretch ends within its column's bins, if it has any
 stretch-end : (plan : Plan) (column : Column) (s : Stretch) → FitsColumns plan → stretch_of column plan ≡ Some s →

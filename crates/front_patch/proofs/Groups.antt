@@ -67,8 +67,8 @@ rows-shown test states part table page old new low row-at small long same shown 
     let row = 31 * i + place in
     let inside : row < 31 * length old = omega (arith, within, few, long) in
     let here : row_in new row ≡ group_row (get_or new i 0) place =
-        ap (λ n. group_row (get_or new n 0) (row % 31)) (omega (arith, few))
-        ∙ ap (group_row (get_or new i 0)) (omega (arith, few)) in
+    ap (λ n. group_row (get_or new n 0) (row % 31)) (omega (arith, few))
+    ∙ ap (group_row (get_or new i 0)) (omega (arith, few)) in
     let number : 31 * (128 * page + i) + place ≡ 3968 * page + row = omega arith in
     sym here ∙ shown row ∙ ap (λ state. shown_by test state (row_in old row)) (same row inside)
     ∙ shown-passes test (last_state (3968 * page + row) states) (tuple_at table (3968 * page + row)) (row_in old row)
@@ -109,7 +109,7 @@ pub ors-small : (list : List Bool) (page n : ℕ) (old new : List ℕ) →
 ors-small list page n old new low small long-old long-new are k d within =
     let is = get_or_default new k d 0 within ∙ are k (omega (arith, within, long-new)) in
     let bound = or_lt 31 (get_or old k 0) (group_at list (128 * page + k)) (small k 0 (omega (arith, within, long-new, long-old)))
-        (low list (128 * page + k)) in
+    (low list (128 * page + k)) in
     omega (arith, is, bound)
 
 pub ors-rows : (list : List Bool) (page n : ℕ) (old new : List ℕ) →

@@ -60,10 +60,14 @@ told-more gave shown shows units unit claims claim (Some versions) long given ke
 
 asked-none : (pages : ℕ) (asked : Option (IndexUnit → ℕ)) → TellsEach pages [] asked asked
 asked-none pages None = refl
-asked-none pages (Some asked) = (asked, refl, record {
-  each = λ unit has. absurd (omega (arith, has.1));
-  others = λ unit is not. refl;
-})
+asked-none pages (Some asked) = (
+  asked,
+  refl,
+  record {
+    each = λ unit has. absurd (omega (arith, has.1));
+    others = λ unit is not. refl;
+  },
+)
 
 each-more : (pages : ℕ) (units : List IndexUnit) (unit : IndexUnit) (before middle now : IndexUnit → ℕ) →
     All (IsUnit pages) units → IsUnit pages unit → ¬ (Contains units unit) → AskedEach pages units before middle →
@@ -125,11 +129,11 @@ losses-more : {Claim : Type 0} (terms : Terms) (log : List Delta) (tries before 
     RoseBy (tries * fallback_count (claims ++ claim ∷ [])) before later.losses
 losses-more terms log tries before unit gave shown middle later claims None one never was =
     let more : tries * fallback_count (claims ++ None ∷ []) ≡ tries * fallback_count claims + tries =
-        ap (λ n. tries * n) (count-snoc is_none claims None) ∙ mul_more tries (fallback_count claims) in
+    ap (λ n. tries * n) (count-snoc is_none claims None) ∙ mul_more tries (fallback_count claims) in
     omega (arith, one.0, was, more)
 losses-more terms log tries before unit gave shown middle later claims (Some c) one never was =
     let same : tries * fallback_count (claims ++ Some c ∷ []) ≡ tries * fallback_count claims =
-        ap (λ n. tries * n) (count-snoc is_none claims (Some c) ∙ omega arith) in
+    ap (λ n. tries * n) (count-snoc is_none claims (Some c) ∙ omega arith) in
     omega (arith, never, was, same)
 
 given-one : {Claim : Type 0} (terms : Terms) (log : List Delta) (tries : ℕ) (unit : IndexUnit) (gave : Claim → Type 0)

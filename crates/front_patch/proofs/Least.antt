@@ -70,7 +70,10 @@ pub least-at : {Claim : Type 0} (shown : Claim → Version) (first : ℕ) (claim
 least-at shown first [] i claim at = none-at i claim at
 least-at shown first (c ∷ claims) zero claim at =
     let is : c ≡ claim = get_or_from_slice_get (c ∷ claims) 0 claim claim at in
-    omega (arith, least-first (min first (length_of (option_map shown c))) (map (option_map shown) claims),
-    ap (λ o. length_of (option_map shown o)) is)
+    omega (
+      arith,
+      least-first (min first (length_of (option_map shown c))) (map (option_map shown) claims),
+      ap (λ o. length_of (option_map shown o)) is,
+    )
 least-at shown first (c ∷ claims) (suc i) claim at =
     least-at shown (min first (length_of (option_map shown c))) claims i claim (get-tail c claims i claim at)

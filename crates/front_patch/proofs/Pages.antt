@@ -33,13 +33,19 @@ pub held-tuple : (terms : Terms) (seen : List Delta) (least page pages at : ℕ)
     at < 3968 → (len : ℕ) × (least ≤ len) × (len ≤ length seen)
     × (option_and_then (λ (h : Bor (List (Option TupleValue))). get_or h.now at None) held
     ≡ tuple_at (after terms.base (take len seen)) (3968 * page + at))
-held-tuple terms seen least page pages at None each some none paged within low =
-    (least, omega arith, within,
-    sym (ap (option_and_then (λ (r : Row). r.1))
-    (slice_get_past (after terms.base (take least seen)) (3968 * page + at) (omega (arith, paged, none)))))
+held-tuple terms seen least page pages at None each some none paged within low = (
+  least,
+  omega arith,
+  within,
+  sym (ap (option_and_then (λ (r : Row). r.1))
+      (slice_get_past (after terms.base (take least seen)) (3968 * page + at) (omega (arith, paged, none)))),
+)
 held-tuple terms seen least page pages at (Some h) each some none paged within low =
-    let table = after terms.base (take some.len seen) in
-    (some.len, some.since, some.within,
-    ap (λ (tuples : List (Option TupleValue)). get_or tuples at None) (page-is h.now table page some.is)
-    ∙ get_or_from_slice_get (tuples_from table (3968 * page) 3968) at (tuple_at table (3968 * page + at)) None
-    (each table (3968 * page) 3968 at low))
+    let table = after terms.base (take some.len seen) in (
+      some.len,
+      some.since,
+      some.within,
+      ap (λ (tuples : List (Option TupleValue)). get_or tuples at None) (page-is h.now table page some.is)
+          ∙ get_or_from_slice_get (tuples_from table (3968 * page) 3968) at (tuple_at table (3968 * page + at)) None
+          (each table (3968 * page) 3968 at low),
+    )

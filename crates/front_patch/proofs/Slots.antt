@@ -13,8 +13,10 @@ get-snoc xs x y i at =
     let within = slice_get_within (xs ++ x ∷ []) i y at in
     let is = get_or_from_slice_get (xs ++ x ∷ []) i y x at in
     ⊎_elim
-    (λ below. inl (below,
-    slice_get-get_or xs i x below ∙ ap Some (sym (get_or_append_left xs (x ∷ []) x i below) ∙ is)))
+    (λ below. inl (
+      below,
+      slice_get-get_or xs i x below ∙ ap Some (sym (get_or_append_left xs (x ∷ []) x i below) ∙ is),
+    ))
     (λ past.
     let end : length xs + 0 ≡ i = omega (arith, long, within, past) in
     inr (omega (arith, end), sym (get_or-append-add xs (x ∷ []) 0 x) ∙ ap (λ n. get_or (xs ++ x ∷ []) n x) end ∙ is))

@@ -22,9 +22,9 @@ ghost use Rattle.front_patch.specs.Takes.{KeepsVersions};
 use crate::bits::{first_row, or_pages, set_changed, show_none, show_page};
 use crate::claims::{content_by, count_fallbacks, leave_each};
 use crate::page::PageAtFront;
+use crate::patches::{changed_rows, contents_since};
 use crate::planned::{page_place, place_in, test_of};
 use crate::row_state::{RowState, states_among};
-use crate::patches::{changed_rows, contents_since};
 use crate::row_test::RowTest;
 use crate::taking::Patch;
 use column_bins::{Column, Plan, Stretch};
@@ -175,7 +175,12 @@ impl<S: VersionStore> Taken<S> {
         for bin in stretch.first..stretch.after {
             self.or_bin(store, base, column, bin, first, out);
         }
-        set_changed(self.changed(), RowTest::IsInBins(column, stretch), first, out);
+        set_changed(
+            self.changed(),
+            RowTest::IsInBins(column, stretch),
+            first,
+            out,
+        );
     }
 
     /// The tuples of a page at the front. It takes no memory.

@@ -8,5 +8,5 @@ invariant-loop-state l = record {
   long : length l.groups ≡ length l.fn.groups;
   groups : All (λ group. group < 2 ^ 31) l.groups;
   rows : (row : ℕ) → row_in l.groups row
-    ≡ shown_by l.test (last_state (l.first + row) (take l.state-index l.states)) (row_in l.fn.groups row);
+      ≡ shown_by l.test (last_state (l.first + row) (take l.state-index l.states)) (row_in l.fn.groups row);
 }

@@ -18,7 +18,7 @@ behind : (c : After-stretches) (limit : ℕ) (base : List Row) (deltas : List De
 behind c limit base deltas n row lawful =
     let table = after base (take n deltas) in
     let joined : after base deltas ≡ after table (drop n deltas) =
-        ap (after base) (sym (take-append-drop n deltas)) ∙ c.histories.ensures.join base (take n deltas) (drop n deltas) in
+    ap (after base) (sym (take-append-drop n deltas)) ∙ c.histories.ensures.join base (take n deltas) (drop n deltas) in
     ap (λ (t : List Row). tuple_at t row) joined
     ∙ tuple-after row table (after table (drop n deltas)) (drop n deltas)
     (c.rows.ensures.last limit table (drop n deltas) row (c.histories.ensures.rest limit base deltas n lawful))
@@ -30,11 +30,11 @@ returns c terms seen front least plan pages changed len patch since within row =
     let first = map state_after (drop least (take len seen)) in
     let second = map state_after (drop len seen) in
     let parts : map state_after (between least front.len seen) ≡ first ++ second =
-        ap (λ (l : List Delta). map state_after (drop least l))
-        (take_all front.len seen (omega (arith, patch.whole.whole)) ∙ sym (take-append-drop len seen))
-        ∙ ap (map state_after) (drop-append-le least (take len seen) (drop len seen)
-        (omega (arith, since, within, length-take len seen)))
-        ∙ map-append state_after (drop least (take len seen)) (drop len seen) in
+    ap (λ (l : List Delta). map state_after (drop least l))
+    (take_all front.len seen (omega (arith, patch.whole.whole)) ∙ sym (take-append-drop len seen))
+    ∙ ap (map state_after) (drop-append-le least (take len seen) (drop len seen)
+    (omega (arith, since, within, length-take len seen)))
+    ∙ map-append state_after (drop least (take len seen)) (drop len seen) in
     tuple-twice row first second (map state_after (between least front.len seen))
     (tuple_at (after base (take least (take len seen))) row) (tuple_at (after base (take len seen)) row)
     (tuple_at (after base seen) row) parts

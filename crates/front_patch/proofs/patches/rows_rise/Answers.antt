@@ -12,5 +12,10 @@ returns c terms log n m is order =
     let history = is.history in
     let some = c.rows.ensures.count limit terms.base (take n log) (c.histories.ensures.front limit terms.base log n history) in
     let more = c.rows.ensures.count limit terms.base (take m log) (c.histories.ensures.front limit terms.base log m history) in
-    omega (arith, some, more, sum_by-take-le (λ (d : Delta). cond (is_insert d) 1 0) (take m log) n,
-    ap (count_by is_insert) (take-take n m log order))
+    omega (
+      arith,
+      some,
+      more,
+      sum_by-take-le (λ (d : Delta). cond (is_insert d) 1 0) (take m log) n,
+      ap (count_by is_insert) (take-take n m log order),
+    )

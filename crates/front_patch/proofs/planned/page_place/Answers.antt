@@ -13,5 +13,9 @@ returns c =
 
 pub overflow_sub-result : goal.overflow_sub-result
 overflow_sub-result c =
-    omega (arith, ap (λ (units : List IndexUnit). length units) c.requires.units,
-    length-append (bitvectors_of c.args.plan.now) (run_of Page 0 c.args.pages), length-run Page 0 c.args.pages)
+    omega (
+      arith,
+      ap (λ (units : List IndexUnit). length units) c.requires.units,
+      length-append (bitvectors_of c.args.plan.now) (run_of Page 0 c.args.pages),
+      length-run Page 0 c.args.pages,
+    )

@@ -23,6 +23,9 @@ pub hold_each-requires-clause-few : goal.hold_each-requires-clause-few
 hold_each-requires-clause-few g c =
     subst (λ (units : List IndexUnit). length units ≤ 65536)
     (sym (c.deref.ensures.value ∙ c.in_ok-units.ensures))
-    (omega (arith, c.requires.few,
-    climbs-length 0 (units_of c.args.plan.now c.args.pages) (215 + c.args.pages)
-    (climbs-units c.args.plan.now c.args.pages c.requires.columns)))
+    (omega (
+      arith,
+      c.requires.few,
+      climbs-length 0 (units_of c.args.plan.now c.args.pages) (215 + c.args.pages)
+          (climbs-units c.args.plan.now c.args.pages c.requires.columns),
+    ))

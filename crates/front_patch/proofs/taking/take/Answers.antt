@@ -45,7 +45,7 @@ taken_of-requires-clause-patch g c =
     let pages = c.planned_pages-pages.ensures in
     let patch = c.in-Ok.ensures in
     let rows = c.prefixes.ensures.rows terms (handle c.front-first.new.self).seen first c.front-first.ensures.log
-        c.front-first.ensures.whole.stands in
+    c.front-first.ensures.whole.stands in
     let most = c.front-first.ensures.log.limits_fit.most_rows in
     record {
       log = patch.log;
@@ -56,10 +56,18 @@ taken_of-requires-clause-patch g c =
       few = omega (arith, pages, few-pages c.args.plan.now first.rows, rows, most);
       paged = λ is.
           let at = stands-last g (goal.at.taken_of-requires-clause-patch g c).After-patch_since c.in-Ok.ensures.only.grows.begins in
-          omega (arith, pages, all-pages c.args.plan.now first.rows is, at.rows,
-          c.rows_rise.ensures terms (handle c.patch_since.new.log).seen c.in-Ok.patch.least first.len patch.log
-          (omega (arith, patch.least,
-          least-claims (g.S.VersionStore.shown c.hold_planned.new.store) first.len c.deref.result.now)));
+          omega (
+            arith,
+            pages,
+            all-pages c.args.plan.now first.rows is,
+            at.rows,
+            c.rows_rise.ensures terms (handle c.patch_since.new.log).seen c.in-Ok.patch.least first.len patch.log
+                (omega (
+                  arith,
+                  patch.least,
+                  least-claims (g.S.VersionStore.shown c.hold_planned.new.store) first.len c.deref.result.now,
+                )),
+          );
     }
 
 pub taken_of-requires-clause-few : goal.taken_of-requires-clause-few
@@ -67,11 +75,17 @@ taken_of-requires-clause-few g c =
     let terms = g.S.Log.CommitLog.terms in
     let first = c.front-first.result in
     let rows = c.prefixes.ensures.rows terms (g.S.Log.CommitLog.handle c.front-first.new.self).seen first
-        c.front-first.ensures.log c.front-first.ensures.whole.stands in
-    omega (arith, c.in_ok-units.ensures.held.long, c.planned_pages-pages.ensures, few-pages c.args.plan.now first.rows, rows,
-    c.front-first.ensures.log.limits_fit.most_rows,
-    climbs-length 0 (units_of c.args.plan.now c.planned_pages-pages.result) (215 + c.planned_pages-pages.result)
-    (climbs-units c.args.plan.now c.planned_pages-pages.result c.requires.plan))
+    c.front-first.ensures.log c.front-first.ensures.whole.stands in
+    omega (
+      arith,
+      c.in_ok-units.ensures.held.long,
+      c.planned_pages-pages.ensures,
+      few-pages c.args.plan.now first.rows,
+      rows,
+      c.front-first.ensures.log.limits_fit.most_rows,
+      climbs-length 0 (units_of c.args.plan.now c.planned_pages-pages.result) (215 + c.planned_pages-pages.result)
+          (climbs-units c.args.plan.now c.planned_pages-pages.result c.requires.plan),
+    )
 
 pub returns-in-Ok-clause-takes : goal.returns-in-Ok-clause-takes
 returns-in-Ok-clause-takes g c =
@@ -83,7 +97,7 @@ returns-in-Ok-clause-takes g c =
     let shown = store.shown c.hold_planned.new.store in
     let patch = c.in-Ok.ensures in
     let rows = c.prefixes.ensures.rows terms (handle c.front-first.new.self).seen first c.front-first.ensures.log
-        c.front-first.ensures.whole.stands in
+    c.front-first.ensures.whole.stands in
     let room = c.requires.standing.row_room in
     subst
     (λ taken. Takes terms c.args.plan.now c.args.tries gave shown c.args.base.now (handle c.args.log.now)

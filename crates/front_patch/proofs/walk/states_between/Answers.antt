@@ -56,7 +56,8 @@ loop-entry-preserved g c =
 pub returns-in_err-push-clause-same : goal.returns-in_err-push-clause-same
 returns-in_err-push-clause-same g c =
     let handle = g.L.CommitLog.handle in
-    let n = c.loop-entry.cursor.len - c.args.from.now.len in
-    (n + 1,
-    walks-more n (n + 1) (handle c.args.log.now) (handle c.loop-entry.log) (handle c.following.new.self)
-    c.loop-entry.invariant.walked c.in-Some.ensures.walk.walked refl)
+    let n = c.loop-entry.cursor.len - c.args.from.now.len in (
+      n + 1,
+      walks-more n (n + 1) (handle c.args.log.now) (handle c.loop-entry.log) (handle c.following.new.self)
+          c.loop-entry.invariant.walked c.in-Some.ensures.walk.walked refl,
+    )

@@ -15,8 +15,8 @@ returns g c at low =
     let row = 3968 * c.args.page + at in
     let first = c.first_row-first.ensures in
     let held = held-tuple terms now.seen now.least c.args.page now.pages at c.held_page-held.result c.tuples.ensures.each
-        c.held_page-held.ensures.some c.held_page-held.ensures.none (patch.paged c.requires.pages)
-        (omega (arith, patch.within, patch.whole.whole)) low in
+    c.held_page-held.ensures.some c.held_page-held.ensures.none (patch.paged c.requires.pages)
+    (omega (arith, patch.within, patch.whole.whole)) low in
     ap (λ tuple. unwrap_or (last_state (c.first_row-first.result + at) c.states_among-changed.result.now) tuple) held.3
     ∙ ap (λ state. unwrap_or state (tuple_at (after terms.base (take held.0 now.seen)) row))
     (ap (λ n. last_state (n + at) c.states_among-changed.result.now) first

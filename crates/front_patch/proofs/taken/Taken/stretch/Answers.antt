@@ -46,8 +46,8 @@ returns g c i within =
     let first = c.args.stretch.first in
     let table = after terms.base now.seen in
     let are : (len : ℕ) → now.least ≤ len → len ≤ length now.seen →
-        AreChanged changed (after terms.base (take len now.seen)) table = λ len since inside. c.changed_rows.ensures terms now.seen now.front now.least now.plan now.pages changed len
-        patch since inside in
+    AreChanged changed (after terms.base (take len now.seen)) table = λ len since inside. c.changed_rows.ensures terms now.seen now.front now.least now.plan now.pages changed len
+    patch since inside in
     c.set_changed.ensures table
     (λ row low none.
     c.loop-bin.invariant.rows row (omega (arith, low, c.loop-bin.invariant.long))

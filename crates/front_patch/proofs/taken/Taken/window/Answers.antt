@@ -23,7 +23,7 @@ returns g c i within =
     let old = after terms.base (take bits.len now.seen) in
     let table = after terms.base now.seen in
     let are = c.changed_rows.ensures terms now.seen now.front now.least now.plan now.pages changed bits.len
-        c.changed.ensures bits.since bits.within in
+    c.changed.ensures bits.since bits.within in
     c.set_changed.ensures table
     (page-others c.test_of-test.result changed c.bits.result.now old table c.args.page c.show_page.new.out
     c.show_page.array_long
