@@ -330,6 +330,8 @@ public:
         }
     }
 
+    size_t bytes() const { return bitvector.size() * sizeof(uint32_t) + fences.size() * sizeof(Place); }
+
     /* Writes the groups of a page, and 0 where there are none. */
     void window(uint32_t page, Page &out) const
     {

@@ -1,6 +1,6 @@
-//! A program that measures the index over the table of a `lineitem` file: how long `Base::build` takes, and a search
-//! for a key. It prints a checksum of all bitvectors and pages, and of the rows that were found, which `bench/index`
-//! compares with that of its twin, and on demand how long the fastest of its rounds took.
+//! A program that measures the index over the table of a `lineitem` file: how long `Base::build` takes, of it the key
+//! pages, and a search for a key. It prints a checksum of all bitvectors, unions and pages, and of the rows that were
+//! found, which `bench/index` compares with that of its twin, and on demand how long the fastest of its rounds took.
 //!
 //! # Proved
 //!
@@ -75,9 +75,11 @@ fn tell<R: Clock + Print + Eprint + AllocGlobal>(
     )?;
     if tells_times {
         eprintln!(rt;
-            "build={}.{:09} find={}.{:09}",
+            "build={}.{:09} keys={}.{:09} find={}.{:09}",
             report.build.as_secs(),
             report.build.subsec_nanos(),
+            report.keys.as_secs(),
+            report.keys.subsec_nanos(),
             report.find.as_secs(),
             report.find.subsec_nanos()
         )?;

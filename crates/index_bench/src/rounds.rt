@@ -1,5 +1,6 @@
 //! The rounds of a measurement.
 ghost use Rattle.std.specs.Prelude.{◌≡◌, ◌<◌, ◌≤◌, length};
+ghost use Rattle.cubit_base.specs.LiveRow.{HasDistinctLiveKeys};
 
 use crate::checksum::Checksum;
 use cubit_base::{Key, ROW_LIMIT, Steps, Table, laws};
@@ -10,7 +11,7 @@ use std::rt::Clock;
 use std::sync::ledger::{Blank, Ledger};
 use std::time::{Duration, Instant};
 use tbl_text::base_of;
-use unit_version::{Base, Content, Memory, Unit};
+use unit_version::{Base, Content, Memory, Unit, key_pages};
 
 // How many keys are asked for.
 const FINDS: u32 = 400_000;
@@ -19,7 +20,10 @@ const FINDS: u32 = 400_000;
 #[derive(Drop)]
 pub(crate) struct Report {
     pub(crate) checksum: Checksum,
+    /// Of all units.
     pub(crate) build: Duration,
+    /// Of the key pages alone.
+    pub(crate) keys: Duration,
     /// Of a search on average.
     pub(crate) find: Duration,
 }
@@ -35,6 +39,7 @@ pub(crate) fn measured<R: Clock + AllocGlobal>(
     let mut report = Report {
         checksum: Checksum::new(),
         build: Duration::MAX,
+        keys: Duration::MAX,
         find: Duration::MAX,
     };
     for _ in 0..rounds {
@@ -42,6 +47,7 @@ pub(crate) fn measured<R: Clock + AllocGlobal>(
         report = Report {
             checksum: last.checksum,
             build: report.build.min(last.build),
+            keys: report.keys.min(last.keys),
             find: report.find.min(last.find),
         };
     }
@@ -69,13 +75,14 @@ fn round<N: Ledger, R: Clock + AllocGlobal>(
     let Ok(table) = base_of(rt.alloc(), bytes, ROW_LIMIT) else {
         return Err(io::Error::from(io::ErrorKind::InvalidData));
     };
-    let keys = asked(rt.alloc(), &table)?;
+    let asked = asked(rt.alloc(), &table)?;
     let rows = table.len();
+    let keys = keys_time(rt, &table)?;
     let began = Instant::now(rt)?;
     let base = Base::build(rt.alloc(), table, rows)?;
     let build = began.elapsed(rt)?;
     let began = Instant::now(rt)?;
-    let found = rows_found(&base, &keys);
+    let found = rows_found(&base, &asked);
     let find = began.elapsed(rt)? / FINDS;
     let mut checksum = Checksum::new();
     checksum.add_base(&base, &mut Steps::<N>::make(blank));
@@ -83,8 +90,18 @@ fn round<N: Ledger, R: Clock + AllocGlobal>(
     Ok(Report {
         checksum,
         build,
+        keys,
         find,
     })
+}
+
+// How long the key pages alone take.
+fn keys_time<R: Clock + AllocGlobal>(rt: &R, table: &Table) -> io::Result<Duration>
+    requires { HasDistinctLiveKeys table.now }
+{
+    let began = Instant::now(rt)?;
+    let _pages = key_pages(rt.alloc(), table)?;
+    began.elapsed(rt)
 }
 
 // Keys of rows that are drawn from all.

@@ -10,4 +10,5 @@ mod RowBits
 mod SortedCodes
 mod SplitRows
 mod Tiles
+mod Unions
 mod Written

@@ -31,6 +31,11 @@ mask-same (suc n) (x ∷ a) (y ∷ b) same =
     let first : x ≡ y = same 0 (omega arith) in
     rw (first, rest) refl
 
+-- the groups of a list without true rows
+pub group_at-none : (rows : List Bool) (k : ℕ) → ((i : ℕ) → get_or rows i false ≡ false) → group_at rows k ≡ 0
+group_at-none rows k none =
+    mask-none 31 (drop (31 * k) rows) (λ i low. get_or-drop (31 * k) rows i false ∙ none (31 * k + i))
+
 -- groups with the same rows
 pub group_at-same : (a b : List Bool) (j k : ℕ)
     → ((at : ℕ) → at < 31 → get_or a (31 * j + at) false ≡ get_or b (31 * k + at) false) → group_at a j ≡ group_at b k

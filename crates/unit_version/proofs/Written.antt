@@ -1,19 +1,21 @@
 -- Lists written page by page.
-use Rattle.std.proofs.Common.{◌≡◌, ℕ, ◌+◌, ◌-◌, ◌*◌, ◌/◌, ◌%◌, ◌^◌, ◌<◌, ◌≤◌, ◌==◌, ◌∙◌, Bool, false, List, [], ◌++◌, length, get_or, drop, map, sym, ap, subst, inl, inr, arith}
+use Rattle.std.proofs.Common.{◌≡◌, ℕ, ◌+◌, ◌-◌, ◌*◌, ◌/◌, ◌%◌, ◌^◌, ◌<◌, ◌≤◌, ◌==◌, ◌∙◌, Bool, false, List, [], ◌∷◌, ◌++◌, length, get_or, set, drop, map, refl, sym, ap, subst, inl, inr, arith}
 use Rattle.std.specs.List.{remove}
-use Rattle.std.proofs.lemmas.Bool.{cases_lt}
+use Rattle.std.proofs.lemmas.Bool.{cases_eq, cases_lt}
 use Rattle.std.proofs.lemmas.Bool.Decides.{nat_tests}
-use Rattle.std.proofs.lemmas.List.{get_or-drop, get_or-take, get_or_append_left, get_or-append_right, get_or_past, get_or_default, length-append, length-drop, length-map, length-take-le}
+use Rattle.std.proofs.lemmas.List.{get_or-drop, get_or-take, get_or_append_left, get_or-append_right, get_or_past, get_or_default, get_or-set_same, get_or-set_other, length-set, length-append, length-drop, length-map, length-take-le}
 use Rattle.std.proofs.Math.ListN.{get_or-map}
 use Rattle.std.proofs.lemmas.List.Edits.{length-remove, get_or-remove_above}
 use Rattle.wah_words.specs.Group.{group_at, group_count}
 use Rattle.wah_words.specs.Place.{SpellPages, page_count}
 use Rattle.cubit_base.specs.Table.{Row}
 use Rattle.column_bins.specs.declared.column.Column.{Column}
+use Rattle.column_bins.specs.declared.plan_type.Stretch.{Stretch}
+use Rattle.column_bins.specs.Plan.{in_stretch}
 use Rattle.unit_version.specs.Content.{is_in_bins, one_bin}
 use Rattle.unit_version.specs.RowBins.{row_bin}
-use Rattle.unit_version.specs.Tile.{ArePageBins, ArePushed, AreFirstPages, AreWritten, IsTile, page_of, rows_of}
-use Rattle.unit_version.proofs.RowBits.{rows_of-bin}
+use Rattle.unit_version.specs.Tile.{ArePageBins, ArePushed, AreFirstPages, AreWritten, HasPage, IsPageOf, IsTile, page_of, rows_in, rows_of}
+use Rattle.unit_version.proofs.RowBits.{rows_in-bins, same-bin}
 use Rattle.unit_version.proofs.Tiles.{group_at-same}
 
 -- the numbers of a tile are groups
@@ -43,12 +45,46 @@ group_at-page bins part page bin k are low few =
     ∙ sym (rows_of-row bin bins (3968 * page + (31 * k + at)) low)
     ∙ ap (λ row. get_or (rows_of bin bins) row false) there)
 
+-- the tile of a page's rows has the page
+pub HasPage-filled : (bins part tile : List ℕ) (page : ℕ) → ArePageBins bins page part → IsTile part tile
+    → HasPage bins page tile
+HasPage-filled bins part tile page are is = record {
+  each = λ bin k low few within.
+      is.each bin k (omega (arith, few)) within ∙ group_at-page bins part page bin k are low few;
+}
+
+-- the rows of one bin, as those of a stretch
+rows_of-one : (bin : ℕ) (bins : List ℕ) → rows_of bin bins ≡ rows_in (one_bin bin) bins
+rows_of-one bin [] = refl
+rows_of-one bin (b ∷ bins) = rw (same-bin b bin, rows_of-one bin bins) refl
+
+-- the groups of one bin
+pub IsPageOf-bin : (bins tile : List ℕ) (page bin : ℕ) → HasPage bins page tile → bin < 255
+    → 144 * bin + 128 ≤ length tile → IsPageOf (rows_in (one_bin bin) bins) page (page_of tile bin)
+IsPageOf-bin bins tile page bin has low within = record {
+  long = length-take-le 128 (drop (144 * bin) tile) (omega (arith, length-drop (144 * bin) tile, within));
+  each = λ k few.
+      get_or-take 128 (drop (144 * bin) tile) k 0 few
+      ∙ get_or-drop (144 * bin) tile k 0
+      ∙ has.each bin k low few (omega (arith, few, within))
+      ∙ ap (λ list. group_at list (128 * page + k)) (rows_of-one bin bins);
+}
+
+-- the numbers of a page are groups
+pub IsPageOf-within : ((list : List Bool) (k : ℕ) → group_at list k < 2 ^ 31) → (list : List Bool) (page : ℕ)
+    (groups : List ℕ) → IsPageOf list page groups → (i d : ℕ) → i < length groups → get_or groups i d < 2 ^ 31
+IsPageOf-within within list page groups is i d low =
+    rw (get_or_default groups i d 0 low, is.each i (omega (arith, is.long, low))) (within list (128 * page + i))
+
+-- no pages
+pub AreFirstPages-none : (list : List Bool) → AreFirstPages list 0 []
+AreFirstPages-none list = record { long = refl; each = λ k low. absurd (omega arith) }
+
 -- one page more
-AreFirstPages-more : (list : List Bool) (page : ℕ) (groups part : List ℕ) → AreFirstPages list page groups
-    → length part ≡ 128 → ((k : ℕ) → k < 128 → get_or part k 0 ≡ group_at list (128 * page + k))
-    → AreFirstPages list (page + 1) (groups ++ part)
-AreFirstPages-more list page groups part are long each = record {
-  long = omega (arith, length-append groups part, are.long, long);
+pub AreFirstPages-more : (list : List Bool) (page : ℕ) (groups part : List ℕ) → AreFirstPages list page groups
+    → IsPageOf list page part → AreFirstPages list (page + 1) (groups ++ part)
+AreFirstPages-more list page groups part are is = record {
+  long = omega (arith, length-append groups part, are.long, is.long);
   each = λ k low.
       elim (cases_lt k (128 * page)) [
         | inl before ↦
@@ -56,37 +92,63 @@ AreFirstPages-more list page groups part are long each = record {
         | inr from ↦
             let there : 128 * page + (k - 128 * page) ≡ k = omega (arith, from) in
             get_or-append_right groups part (128 * page) k 0 are.long from
-            ∙ each (k - 128 * page) (omega (arith, from, low))
+            ∙ is.each (k - 128 * page) (omega (arith, from, low))
             ∙ ap (group_at list) there
       ];
 }
 
--- a page of each bin
-pub AreWritten-more : (bins part tile : List ℕ) (page count : ℕ) (old new : List (List ℕ)) → count ≤ 255
-    → AreWritten bins page 0 count old → ArePageBins bins page part → IsTile part tile
-    → length tile ≡ 144 * length old → ArePushed tile (length old) old new → AreWritten bins (page + 1) 0 count new
-AreWritten-more bins part tile page count old new few are page_bins is long pushed = record {
+-- one list more has a page more
+pub ArePushed-more : (of : ℕ → Stretch) (tile : List ℕ) (n : ℕ) (old new : List (List ℕ)) (part : List ℕ)
+    → ArePushed of tile n old new → n < length old
+    → ((bins : List ℕ) (page : ℕ) → HasPage bins page tile → IsPageOf (rows_in (of n) bins) page part)
+    → ArePushed of tile (n + 1) old (set new n (get_or new n [] ++ part))
+ArePushed-more of tile n old new part are within is =
+    let own = get_or new n [] ++ part in
+    record {
+      long = length-set new n own ∙ are.long;
+      each = λ k low bins page has before.
+          elim (cases_eq k n) [
+            | inl same ↦
+                let kept : get_or new n [] ≡ get_or old n [] = are.rest n (omega arith) in
+                let first = rw same at before in
+                rw (same, get_or-set_same new n own [] (omega (arith, within, are.long)), kept)
+                (AreFirstPages-more (rows_in (of n) bins) page (get_or old n []) part first (is bins page has))
+            | inr other ↦
+                rw (get_or-set_other new n k own [] other) (are.each k (omega (arith, low, other)) bins page has before)
+          ];
+      rest = λ k from.
+          get_or-set_other new n k own [] (λ same. absurd (omega (arith, same, from))) ∙ are.rest k (omega (arith, from));
+    }
+
+-- a page of each list
+pub AreWritten-more : (bins : List ℕ) (of : ℕ → Stretch) (page count : ℕ) (tile : List ℕ) (old new : List (List ℕ))
+    → AreWritten bins of page 0 count old → HasPage bins page tile → ArePushed of tile (length old) old new
+    → AreWritten bins of (page + 1) 0 count new
+AreWritten-more bins of page count tile old new are has pushed = record {
   long = omega (arith, are.long, pushed.long);
   each = λ k low.
-      let within : k < length old = omega (arith, low, pushed.long) in
-      let own = page_of tile k in
-      let room : 144 * k + 128 ≤ length tile = omega (arith, within, long) in
-      let size : length own ≡ 128 =
-      length-take-le 128 (drop (144 * k) tile) (omega (arith, length-drop (144 * k) tile, room)) in
       let here : 0 + k ≡ k = omega arith in
-      let before = rw here at (are.each k within) in
-      rw (here, pushed.each k within)
-      (AreFirstPages-more (rows_of k bins) page (get_or old k []) own before size (λ i inside.
-      get_or-take 128 (drop (144 * k) tile) i 0 inside
-      ∙ get_or-drop (144 * k) tile i 0
-      ∙ is.each k i (omega (arith, inside)) (omega (arith, inside, room))
-      ∙ group_at-page bins part page k i page_bins (omega (arith, within, are.long, few)) inside));
+      let before = rw here at (are.each k (omega (arith, low, pushed.long))) in
+      rw here (pushed.each k (omega (arith, low, pushed.long)) bins page has before);
 }
 
+-- there is room for a page more
+pub AreWritten-room : (bins : List ℕ) (of : ℕ → Stretch) (pages count : ℕ) (lists : List (List ℕ))
+    → AreWritten bins of pages 0 count lists → pages < 5000 → (k : ℕ) → length (get_or lists k []) + 128 < 2 ^ 30
+AreWritten-room bins of pages count lists are few bin =
+    elim (cases_lt bin (length lists)) [
+      | inl within ↦
+          let here : 0 + bin ≡ bin = omega arith in
+          let written = rw here at (are.each bin within) in
+          omega (arith, written.long, few)
+      | inr past ↦ let none = get_or_past lists bin [] past in rw none (omega arith)
+    ]
+
 -- the lists without the first
-pub AreWritten-rest : (bins : List ℕ) (pages first after : ℕ) (lists : List (List ℕ)) → 0 < length lists
-    → AreWritten bins pages first after lists → AreWritten bins pages (first + 1) after (remove lists 0)
-AreWritten-rest bins pages first after lists some are =
+pub AreWritten-rest : (bins : List ℕ) (of : ℕ → Stretch) (pages first after : ℕ) (lists : List (List ℕ))
+    → 0 < length lists → AreWritten bins of pages first after lists
+    → AreWritten bins of pages (first + 1) after (remove lists 0)
+AreWritten-rest bins of pages first after lists some are =
     let long = length-remove lists 0 some in
     record {
       long = omega (arith, are.long, long, some);
@@ -110,18 +172,26 @@ all_pages past list groups are = record {
       ];
 }
 
--- the groups of the first list are those of its bin
-pub first_list : ((list : List Bool) (k : ℕ) → group_count (length list) ≤ k → group_at list k ≡ 0)
-    → (column : Column) (table : List Row) (bin after : ℕ) (lists : List (List ℕ)) (groups : List ℕ)
-    → AreWritten (map (row_bin column) table) (page_count (length table)) bin after lists → after ≤ 255
-    → 0 < length lists → groups ≡ get_or lists 0 groups
-    → SpellPages groups (map (is_in_bins column (one_bin bin)) table)
-first_list past column table bin after lists groups are few some is =
+-- the groups of a list's pages are those of the live rows of its bins
+pub live_pages : ((list : List Bool) (k : ℕ) → group_count (length list) ≤ k → group_at list k ≡ 0)
+    → (column : Column) (table : List Row) (stretch : Stretch) (groups : List ℕ) → stretch.after ≤ 255
+    → AreFirstPages (rows_in stretch (map (row_bin column) table)) (page_count (length table)) groups
+    → SpellPages groups (map (is_in_bins column stretch) table)
+live_pages past column table stretch groups few are =
     let bins = map (row_bin column) table in
-    let list = rows_of bin bins in
-    let first : bin + 0 ≡ bin = omega arith in
+    let list = rows_in stretch bins in
+    let long : length list ≡ length table =
+    length-map bins (in_stretch stretch) ∙ length-map table (row_bin column) in
+    let pages : AreFirstPages list (page_count (length list)) groups = rw long are in
+    subst (SpellPages groups) (rows_in-bins column stretch table few) (all_pages past list groups pages)
+
+-- so are those of the first list
+pub first_list : ((list : List Bool) (k : ℕ) → group_count (length list) ≤ k → group_at list k ≡ 0)
+    → (column : Column) (table : List Row) (of : ℕ → Stretch) (first after : ℕ) (lists : List (List ℕ))
+    (groups : List ℕ) → AreWritten (map (row_bin column) table) of (page_count (length table)) first after lists
+    → (of first).after ≤ 255 → 0 < length lists → groups ≡ get_or lists 0 groups
+    → SpellPages groups (map (is_in_bins column (of first)) table)
+first_list past column table of first after lists groups are few some is =
+    let here : first + 0 ≡ first = omega arith in
     let own : groups ≡ get_or lists 0 [] = is ∙ get_or_default lists 0 groups [] some in
-    let long : length list ≡ length table = length-map bins (λ b. b == bin) ∙ length-map table (row_bin column) in
-    let pages : AreFirstPages list (page_count (length list)) groups = rw (long, own) (rw first at (are.each 0 some)) in
-    subst (SpellPages groups) (rows_of-bin column bin table (omega (arith, are.long, some, few)))
-    (all_pages past list groups pages)
+    live_pages past column table (of first) groups few (rw own (rw here at (are.each 0 some)))

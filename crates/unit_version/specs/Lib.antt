@@ -1,5 +1,6 @@
 pub mod Base
 pub mod BaseValue
+pub mod Columns
 pub mod Content
 pub mod Entry
 pub mod KeyedRow
@@ -8,4 +9,5 @@ pub mod RowBins
 pub mod Search
 pub mod Split
 pub mod Tile
+pub mod Union
 pub mod Unit

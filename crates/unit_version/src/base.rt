@@ -1,25 +1,32 @@
 //! All units over the base table.
-ghost use Rattle.std.specs.Prelude.{◌≡◌, ◌+◌, ◌<◌, ◌≤◌, length, IfOk};
+ghost use Rattle.std.specs.Prelude.{◌≡◌, ◌↔◌, ◌≤◌, length, map, IfOk, IfSome, IsSome, IsTrue};
 ghost use Rattle.cubit_base.specs.LiveRow.{HasDistinctLiveKeys};
 ghost use Rattle.cubit_base.specs.declared.table.TheConstants.{ROW_LIMIT};
-ghost use Rattle.column_bins.specs.Column.{bin_count};
 ghost use Rattle.wah_words.specs.Place.{page_count};
-ghost use Rattle.unit_version.specs.Content.{content_of, AreContents};
+ghost use Rattle.unit_version.specs.Columns.{AreOfColumn};
+ghost use Rattle.unit_version.specs.Content.{content_of, is_in_bins, AreContents};
+ghost use Rattle.unit_version.specs.Union.{bins_from, is_kept};
 ghost use Rattle.unit_version.specs.Unit.{IsUnit, unit_count};
 ghost use Rattle.unit_version.specs.declared.unit.Unit.TheVariants as unit;
 
-mod bits;
+mod columns;
+mod months;
+mod rows;
 mod tile;
+mod unions;
+mod writers;
 
 use crate::keys::key_pages;
 use crate::{Content, Memory, Page, Unit};
-use bits::{bin_contents, live_content};
 use column_bins::Column;
+use columns::{Columns, column_contents};
 use cubit_base::Table;
-use fence_window::PAGE_ROWS;
+use fence_window::{PAGE_ROWS, Plain};
 use std::alloc::Global;
 use std::marker::Model;
 use std::snapshot::Snapshot;
+use unions::union_of;
+use writers::ColumnUnits;
 
 /// What each unit holds over a table; contracts see the table and the number of rows that there may ever be.
 #[derive(Drop)]
@@ -28,12 +35,7 @@ pub struct Base {
     table: Snapshot<Table>,
     row_room: u32,
     rows: u32,
-    live: Content,
-    ship: Vec<Content>,
-    disc: Vec<Content>,
-    qty: Vec<Content>,
-    flag: Vec<Content>,
-    status: Vec<Content>,
+    columns: Columns,
     pages: Vec<Content>,
     keys: Vec<Content>,
 }
@@ -61,12 +63,7 @@ impl Base {
         Ok(Base {
             row_room,
             rows: table.len(),
-            live: live_content(alloc, &table)?,
-            ship: bin_contents(alloc, &table, Column::Ship)?,
-            disc: bin_contents(alloc, &table, Column::Disc)?,
-            qty: bin_contents(alloc, &table, Column::Qty)?,
-            flag: bin_contents(alloc, &table, Column::Flag)?,
-            status: bin_contents(alloc, &table, Column::Status)?,
+            columns: column_contents(alloc, &table)?,
             pages: page_contents(alloc, &table, row_room.div_ceil(PAGE_ROWS))?,
             keys: key_pages(alloc, &table)?,
             table: Snapshot::of(&table),
@@ -100,23 +97,35 @@ impl Base {
         ensures { result.now ≡ content_of unit self.now.table }
     {
         match unit {
-            Unit::Live => &self.live,
-            Unit::Bin(column, bin) => &self.bins(column)[usize::from(bin)],
+            Unit::Live => &self.columns.live,
+            Unit::Bin(column, bin) => &self.units_of(column).bins[usize::from(bin)],
             Unit::Page(page) => &self.pages[page as usize],
             Unit::Keys(rest) => &self.keys[usize::from(rest)],
         }
     }
 
-    // What the bins of a column hold.
-    fn bins(&self, column: Column) -> &[Content]
-        ensures { AreContents (unit.Bin column) self.now.table (bin_count column) result.now }
+    /// The union of so many bins of a column from the first on: which rows are live and have one of these bins. Years,
+    /// pairs of discounts, sixteens and fours of quantities are kept, each from a multiple of its width on; of other
+    /// bins there is none. It takes no memory.
+    pub fn coarse(&self, column: Column, first: u8, bins: u8) -> Option<&Plain>
+        ensures kept { IsSome result ↔ IsTrue (is_kept column first bins) }
+        ensures list { IfSome result (λ plain. plain.now
+            ≡ map (is_in_bins column (bins_from first bins)) self.now.table) }
+    {
+        let n = union_of(column, first, bins)?;
+        Some(&self.units_of(column).unions[n])
+    }
+
+    // What the bins of a column hold, and their unions.
+    fn units_of(&self, column: Column) -> &ColumnUnits
+        ensures { AreOfColumn column self.now.table result.now }
     {
         match column {
-            Column::Ship => &self.ship,
-            Column::Disc => &self.disc,
-            Column::Qty => &self.qty,
-            Column::Flag => &self.flag,
-            Column::Status => &self.status,
+            Column::Ship => &self.columns.ship,
+            Column::Disc => &self.columns.disc,
+            Column::Qty => &self.columns.qty,
+            Column::Flag => &self.columns.flag,
+            Column::Status => &self.columns.status,
         }
     }
 }

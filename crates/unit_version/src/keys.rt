@@ -75,7 +75,7 @@ impl Keys {
 }
 
 /// The key pages of a table, by their rests. It takes one pass over the rows, and a sort where their keys do not rise.
-pub(crate) fn key_pages(alloc: Global, table: &Table) -> Result<Vec<Content>, Memory>
+pub fn key_pages(alloc: Global, table: &Table) -> Result<Vec<Content>, Memory>
     requires { HasDistinctLiveKeys table.now }
     ensures { IfOk result (λ pages. AreContents unit.Keys table.now 64 pages.items) }
 {

@@ -52,6 +52,6 @@ mod unit;
 pub use base::Base;
 pub use content::Content;
 pub use cubit_base::Memory;
-pub use keys::Keys;
+pub use keys::{Keys, key_pages};
 pub use page::Page;
 pub use unit::Unit;

@@ -5,9 +5,10 @@ ghost use Rattle.cubit_base.specs.LiveRow.{HasDistinctLiveKeys};
 use super::*;
 use column_bins::{Column, bin_of};
 use cubit_base::{Flag, Key, LineStatus, Steps, Table, Tuple, laws};
-use fence_window::PAGE_ROWS;
+use fence_window::{BLOCK_GROUPS, PAGE_ROWS, Plain};
 use std::alloc::Global;
 use std::marker::Brand;
+use std::ops::Range;
 use std::process::Abort;
 use std::sync::ledger::{Blank, Ledger};
 use std::test::Fail;
@@ -69,6 +70,7 @@ fn table_of(alloc: Global, rows: u32) -> Result<Table, Memory>
 // The base of such a table, with room for one row more.
 fn base_of(alloc: Global, rows: u32) -> Result<(Base, Table), Memory>
     requires { rows ≤ 5_000 }
+    ensures { IfOk result (λ made. length made.1 ≤ 5_000) }
 {
     let table = table_of(alloc, rows)?;
     let base = Base::build(alloc, table_of(alloc, rows)?, rows + 1)?;
@@ -190,6 +192,64 @@ fn bits_are_those_of_the_rows(rt: HostRuntime) -> Result<(), Fail> {
                 "of row {row}"
             );
         }
+    }
+    Ok(())
+}
+
+// The rows of the union are those whose bin lies in it, by the groups of its first pages.
+fn union_is<R: Abort + AllocGlobal>(
+    rt: &R,
+    plain: &Plain,
+    table: &Table,
+    column: Column,
+    bins: Range<u8>,
+) -> Result<(), Memory>
+    requires { length table.now ≤ 5_000 }
+{
+    let mut groups = [0; BLOCK_GROUPS];
+    plain.or_into(0, &mut groups);
+    for row in 0..table.len() {
+        let (_, tuple) = table.row(row).unwrap();
+        let is = match tuple {
+            Some(tuple) => {
+                let bin = bin_of(column, &tuple);
+                bins.start <= bin && bin < bins.end
+            }
+            None => false,
+        };
+        let has = (groups[(row / 31) as usize] >> (row % 31)) & 1 == 1;
+        assert_eq!(rt; has, is, "of row {row}");
+    }
+    Ok(())
+}
+
+#[test]
+fn unions_are_those_of_their_bins(rt: HostRuntime) -> Result<(), Fail> {
+    let (base, table) = base_of(rt.alloc(), 4_500)?;
+    for (column, bins, count) in [
+        (Column::Ship, 12u8, 7u8),
+        (Column::Disc, 2, 5),
+        (Column::Qty, 16, 3),
+        (Column::Qty, 4, 12),
+    ] {
+        for first in 0..84u8 {
+            match base.coarse(column, first, bins) {
+                Some(plain) => {
+                    union_is(&rt, plain, &table, column, first..first + bins)?;
+                    assert!(rt;
+                        first % bins == 0 && first / bins < count,
+                        "from {first} on"
+                    );
+                }
+                None => assert!(rt;
+                    first % bins != 0 || first / bins >= count,
+                    "from {first} on"
+                ),
+            }
+        }
+    }
+    for (column, bins) in [(Column::Qty, 8), (Column::Disc, 4), (Column::Status, 2)] {
+        assert!(rt; base.coarse(column, 0, bins).is_none());
     }
     Ok(())
 }

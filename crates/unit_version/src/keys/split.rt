@@ -14,11 +14,14 @@ pub(crate) const KEY_PAGES: u8 = 64;
 
 const _: () = prove!(KEY_PAGES == 64);
 
+// A number for each key page.
+type Counts = [u32; KEY_PAGES as usize];
+
 /// A list for each key page, in the order of rows.
 pub(crate) fn split(alloc: Global, table: &Table) -> Result<Vec<Vec<Entry>>, Memory>
     ensures { IfOk result (λ lists. AreSplit table.now lists.items) }
 {
-    let mut lists = empty_lists(alloc)?;
+    let mut lists = empty_lists(alloc, &counts_of(table))?;
     for row in 0..table.len() {
         let (key, tuple) = table.row(row).unwrap();
         add(&mut lists, row, &key, &tuple)?;
@@ -26,13 +29,25 @@ pub(crate) fn split(alloc: Global, table: &Table) -> Result<Vec<Vec<Entry>>, Mem
     Ok(lists)
 }
 
-// A list with nothing in it for each key page.
-fn empty_lists(alloc: Global) -> Result<Vec<Vec<Entry>>, Memory>
+// How many live rows each page has. It is room to reserve, so that no contract speaks of it.
+fn counts_of(table: &Table) -> Counts {
+    let mut counts = [0; KEY_PAGES as usize];
+    for row in 0..table.len() {
+        if let Some((key, Some(_))) = table.row(row) {
+            counts[usize::from(rest_of(&key))] += 1;
+        }
+    }
+    counts
+}
+
+// A list with nothing in it for each key page, with room for so many entries.
+fn empty_lists(alloc: Global, counts: &Counts) -> Result<Vec<Vec<Entry>>, Memory>
     ensures { IfOk result (λ lists. AreSplit [] lists.items) }
 {
     let mut lists = Vec::with_capacity(alloc, usize::from(KEY_PAGES))?;
-    for _page in 0..KEY_PAGES {
-        lists.push(Vec::new(alloc))?;
+    for page in 0..KEY_PAGES {
+        let count = counts[usize::from(page)];
+        lists.push(Vec::with_capacity(alloc, count as usize)?)?;
     }
     Ok(lists)
 }

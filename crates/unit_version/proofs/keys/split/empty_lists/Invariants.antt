@@ -7,5 +7,5 @@ use Rattle.unit_version.proofs.keys.split.empty_lists.Given as goal
 
 abbrev pub invariant-loop-page : goal.invariant-loop-page
 invariant-loop-page l =
-    (length l.lists.items ≡ l._page)
-    × ((rest : ℕ) (d : Vec Entry Global) → rest < l._page → (slice_index_or l.lists.items rest d).items ≡ [])
+    (length l.lists.items ≡ l.page)
+    × ((rest : ℕ) (d : Vec Entry Global) → rest < l.page → (slice_index_or l.lists.items rest d).items ≡ [])

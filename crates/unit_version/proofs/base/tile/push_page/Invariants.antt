@@ -1,5 +1,0 @@
-use Rattle.unit_version.specs.Tile.{ArePushed}
-use Rattle.unit_version.proofs.base.tile.push_page.Given as goal
-
-abbrev pub invariant-loop-bin : goal.invariant-loop-bin
-invariant-loop-bin l = ArePushed l.tile l.bin l.fn.lists l.lists
