@@ -14,4 +14,4 @@ mod Slots
 mod States
 mod Walks
 mod Takings
-mod Tests
+mod RowTests

@@ -1,5 +1,5 @@
 -- Units in a row.
-use Rattle.std.proofs.Common.{◌≡◌, ℕ, zero, suc, ◌+◌, ◌-◌, ◌<◌, ◌≤◌, length, get_or, slice_get, Some, length-append, List, [], ◌∷◌, ◌++◌, ap, ◌∙◌, sym, refl, arith, append_assoc, append-nil}
+use Rattle.std.proofs.Common.{◌≡◌, ℕ, zero, suc, ◌+◌, ◌-◌, ◌<◌, ◌≤◌, length, get_or, slice_get, Some, Contains, length-append, List, [], ◌∷◌, ◌++◌, ap, ◌∙◌, sym, refl, arith, append_assoc, append-nil}
 use Rattle.std.proofs.lemmas.List.{get_or-append-add}
 use Rattle.std.proofs.lemmas.Option.{slice_get-get_or}
 use Rattle.unit_version.specs.declared.unit.Unit.{Unit as IndexUnit}
@@ -58,3 +58,9 @@ get-page before pages page within =
     ∙ slice_get-get_or all (length before + page) (Page page) (omega (arith, long, run, within))
     ∙ ap Some (get_or-append-add before (run_of Page 0 pages) page (Page page) ∙ get-run Page 0 pages page (Page page) within
     ∙ ap Page (omega arith))
+
+pub contains-run : (kind : ℕ → IndexUnit) (first n k : ℕ) → first ≤ k → k < first + n → Contains (run_of kind first n) (kind k)
+contains-run kind first n k low within =
+    let at : first + (k - first) ≡ k = omega (arith, low) in
+    (k - first, omega (arith, low, within, length-run kind first n),
+    get-run kind first n (k - first) (kind k) (omega (arith, low, within)) ∙ ap kind at)

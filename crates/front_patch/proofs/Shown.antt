@@ -26,7 +26,7 @@ use Rattle.front_patch.specs.declared.row_state.RowState.{RowState}
 use Rattle.front_patch.specs.declared.row_test.RowTest.{RowTest}
 use Rattle.front_patch.specs.declared.row_test.RowTest.TheVariants.{IsLive, IsInBins}
 use Rattle.front_patch.proofs.Groups.{row-passes}
-use Rattle.front_patch.proofs.Tests.{bits-in_bins}
+use Rattle.front_patch.proofs.RowTests.{bits-in_bins}
 
 bits_in : Content → List Bool
 bits_in (content.Bits bits) = bits

@@ -42,3 +42,13 @@ bitvectors_of plan =
 -- the units of a plan: these, and so many pages
 abbrev pub units_of : Plan → ℕ → List IndexUnit
 units_of plan pages = bitvectors_of plan ++ run_of Page 0 pages
+
+-- how many these are
+abbrev pub width_of : Option Stretch → ℕ
+width_of None = 0
+width_of (Some s) = s.after - s.first
+
+abbrev pub planned_count : Plan → ℕ → ℕ
+planned_count plan pages =
+    (if is_open plan then 1 else 0) + width_of plan.ship + width_of plan.disc + width_of plan.qty + width_of plan.flag
+    + width_of plan.status + pages

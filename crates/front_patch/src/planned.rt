@@ -40,7 +40,7 @@ fn push_pages(units: &mut Vec<Unit>, pages: u32) -> Result<(), Memory>
 }
 
 // Whether no column is restricted.
-fn is_open(plan: &Plan) -> bool
+pub(crate) fn is_open(plan: &Plan) -> bool
     ensures { result ≡ is_open plan.now }
 {
     plan.ship.is_none()

@@ -7,7 +7,7 @@ use Rattle.front_patch.specs.Bits.{passes}
 use Rattle.front_patch.specs.Changed.{AreChanged}
 use Rattle.front_patch.specs.declared.row_test.RowTest.TheVariants.{IsInBins}
 use Rattle.front_patch.proofs.Shown.{states-new, unchanged, bins-none, bins-more, bins-end}
-use Rattle.front_patch.proofs.Tests.{bits-in_bins}
+use Rattle.front_patch.proofs.RowTests.{bits-in_bins}
 use Rattle.front_patch.proofs.taken.Taken.stretch.Goals as goal
 
 pub loop-bin-init : goal.loop-bin-init
