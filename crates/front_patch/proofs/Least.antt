@@ -16,7 +16,7 @@ use Rattle.front_patch.proofs.Holding.{count-snoc}
 use Rattle.front_patch.proofs.Slots.{none-at}
 use mir.Val.{bool_byte}
 
-none-byte : {Claim : Type 0} (claim : Option Claim) (none : Bool) → is_some claim ≡ not none →
+pub none-byte : {Claim : Type 0} (claim : Option Claim) (none : Bool) → is_some claim ≡ not none →
     cond (is_none claim) 1 0 ≡ bool_byte none
 none-byte None true is = refl
 none-byte None false is = absurd (false≢true is)

@@ -8,6 +8,8 @@ ghost use Rattle.commit_log.specs.Log.{IsWhole, Stands};
 ghost use Rattle.commit_log.specs.Handle.{Grows};
 ghost use Rattle.unit_version.specs.Unit.{IsUnit};
 ghost use Rattle.unit_version.specs.declared.unit.Unit.TheVariants.{Bin};
+ghost use Rattle.commit_log.specs.Serial.{serial_terms};
+ghost use Rattle.version_store.specs.Memory.{memory_store, AreVersions};
 ghost use Rattle.version_store.specs.Store.{IsStanding};
 ghost use Rattle.front_patch.specs.Bits.{IsBits};
 ghost use Rattle.front_patch.specs.Planned.{FitsColumns, HasBin, units_of};
@@ -63,23 +65,25 @@ fn grow<L: CommitLog, N: Ledger, R: Abort + AllocGlobal>(
 }
 
 // Replaces the version of a bitvector by that of the table at a front.
-fn replace_bits<S: VersionStore, N: Ledger, R: Abort + AllocGlobal>(
+fn replace_bits<S: Setup, N: Ledger, R: Abort + AllocGlobal>(
     rt: &R,
-    log: &mut S::Log,
-    store: &mut S,
+    log: &mut SerialLog<S>,
+    store: &mut MemoryStore<S>,
     base: &Base,
     unit: Unit,
     front: &Front,
     table: &Table,
     steps: &mut Steps<N>,
 ) -> Result<(), Memory>
-    requires standing { IsStanding S.Log.terms (S.store store.old) base.now (S.over store.old log.old) }
+    requires standing { IsStanding (serial_terms S.base S.limits) (memory_store store.old) base.now
+        (AreVersions (serial_terms S.base S.limits) store.old log.old.seen) }
     requires bits { IsBits unit }
     requires unit { IsUnit 0 unit }
-    requires whole { IsWhole S.Log.terms (S.Log.handle log.old).seen front.now }
-    requires table { table.now ≡ after S.Log.terms.base (S.Log.handle log.old).seen }
-    ensures standing { IsStanding S.Log.terms (S.store store.new) base.now (S.over store.new log.new) }
-    ensures grows { Grows (S.Log.handle log.old) (S.Log.handle log.new) }
+    requires whole { IsWhole (serial_terms S.base S.limits) log.old.seen front.now }
+    requires table { table.now ≡ after S.base log.old.seen }
+    ensures standing { IsStanding (serial_terms S.base S.limits) (memory_store store.new) base.now
+        (AreVersions (serial_terms S.base S.limits) store.new log.new.seen) }
+    ensures same { log.new ≡ log.old }
 {
     commit_log::laws::handles();
     let rows = passing(rt.alloc(), table, test_of(unit))?;

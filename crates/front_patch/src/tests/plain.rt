@@ -1,5 +1,5 @@
 //! Plain tables: deltas drawn for them, and what bitvectors and pages of them are, row by row.
-ghost use Rattle.std.specs.Prelude.{◌≡◌, ◌≢◌, ◌⊎◌, ◌+◌, ◌*◌, ◌<◌, ◌≤◌, ℕ, All, IsTrue, IfOk, IfSome, length};
+ghost use Rattle.std.specs.Prelude.{◌≡◌, ◌≢◌, ◌⊎◌, ◌+◌, ◌*◌, ◌<◌, ◌≤◌, ℕ, All, IsTrue, IfOk, IfSome, length, slice_get};
 ghost use Rattle.cubit_base.specs.LiveRow.{HasDistinctLiveKeys};
 ghost use Rattle.cubit_base.specs.Delta.{applied, IsLawful};
 ghost use Rattle.front_patch.specs.Bits.{bits_by};
@@ -126,20 +126,30 @@ pub(crate) fn table_after(alloc: Global, table: &Table, delta: &Delta, limit: u3
 {
     laws::deltas();
     let mut after = Table::new(alloc);
-    for n in 0..table.len() {
-        let (key, tuple) = table.row(n).unwrap();
-        let tuple = if n == delta.row { delta.after } else { tuple };
+    let rows = table.len() + u32::from(delta.before.is_none());
+    for n in 0..rows {
+        let (key, tuple) = row_after(table, delta, n, limit).unwrap();
         after.push(key, tuple)?;
-    }
-    if delta.row == table.len() {
-        after.push(delta.key, delta.after)?;
     }
     Ok(after)
 }
 
+// A row of the table after a delta.
+fn row_after(table: &Table, delta: &Delta, n: u32, limit: u32) -> Option<(Key, Option<Tuple>)>
+    requires { IsLawful limit table.now delta.now }
+    ensures { result ≡ slice_get (applied table.now delta.now) n }
+{
+    laws::deltas();
+    if n == delta.row {
+        return Some((delta.key, delta.after));
+    }
+    table.row(n)
+}
+
 // The rows of a table that pass.
 pub(crate) fn passing(alloc: Global, table: &Table, test: RowTest) -> Result<Vec<bool>, Memory>
-    ensures { IfOk result (λ rows. rows.items ≡ bits_by test table.now) }
+    ensures rows { IfOk result (λ rows. rows.items ≡ bits_by test table.now) }
+    ensures few { IfOk result (λ rows. length rows.items ≤ 16_777_216) }
 {
     let mut rows = Vec::new(alloc);
     for n in 0..table.len() {
