@@ -1,0 +1,17 @@
+mod Climbing
+mod Groups
+mod Holding
+mod Keys
+mod Least
+mod Pages
+mod Patching
+mod Rising
+mod Runs
+mod Sees
+mod Setting
+mod Shown
+mod Slots
+mod States
+mod Walks
+mod Takings
+mod RowTests

@@ -1,0 +1,11 @@
+pub mod RowStates
+pub mod Bits
+pub mod PageAtFront
+pub mod Planned
+pub mod Changed
+pub mod Keys
+pub mod Patch
+pub mod Taken
+pub mod Since
+pub mod Takes
+pub mod Holding

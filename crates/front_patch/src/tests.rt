@@ -1,0 +1,2 @@
+mod ages;
+mod plain;
