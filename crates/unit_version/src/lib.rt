@@ -1,48 +1,37 @@
-//! Units: the parts of the index that are kept and changed each as a whole, and what each of them holds over a table.
-//! docs/DEFINITIONS.md says the words of the contracts in plain language.
+//! Units: the parts of the index that are kept and changed each as a whole; what each of them holds over a table, and
+//! after changes of it. docs/DEFINITIONS.md says the words of the contracts in plain language.
 //!
 //! A bitvector has a truth value for each row, in the words of `wah_words`. A page has the tuples of 3,968 rows, in a
 //! word each. A key page has the live rows of the keys whose order leaves one rest by 64, in 16 bytes each and in the
-//! order of keys; contracts see them in the order of rows.
-//!
-//! Beside the units a base keeps unions of neighbouring bins in plain groups, of 4 bytes to 31 rows: 7 years, 5 pairs of
-//! discounts, 3 sixteens and 12 fours of quantities. They are derived from the bins, and are no units.
+//! order of keys; contracts see them in the order of rows. Beside these units a base keeps 27 unions of neighbouring
+//! bins in plain groups.
 //!
 //! # Proved
 //!
-//! Each call is safe and returns.
-//!
 //! - `Base::build`: the base is of the table and the row room that were given. `Base::content`: what a unit holds is
-//!   `content_of` it and the table, for every unit that `IsUnit` names. `Base::rows`, `pages`, `units`: how many these
-//!   are.
-//! - `Base::coarse`: there is a union exactly where `is_kept` says so (`kept`), and then it is the list of the rows that
-//!   are live and whose bin is one of those (`list`).
-//! - `key_pages`: the key pages of a table alone, as `build` makes them.
-//! - `Page::get`: the tuple at the place, or none where the row is not live and past the last row (`value`), and one
-//!   read more whatever it answers (`reads`). No other public call gives a page's tuples.
-//! - `Keys::find`: the row and the tuple of the live row with the key, or none exactly where no live row of the page
-//!   has it, as also for a key of another page.
-//! - `laws::keys`: what the page of a key finds is the table's live row with it. `laws::tuples`: the tuples of a page,
-//!   one by one.
-//! - No call but `build` and `key_pages` takes memory.
+//!   `content_of` it and the table. `Base::rows`, `row_room`, `pages`, `units`: how many these are. `key_pages`: the
+//!   key pages alone. `Base::coarse`: there is a union exactly where `is_kept` says so, and it is that of those bins.
+//! - `Page::get`: the tuple at the place, or none where the row is not live and past the last row, and one read more
+//!   whatever it answers. No other public call gives a page's tuples. `Keys::find`: the row and the tuple of the live
+//!   row with the key, or none exactly where no live row of the page has it.
+//! - `patched`, `patched_by` (`IsPatched`): over each table that has the given content of the unit, and over which the
+//!   deltas may come, the answer is the content after them. `Changes::of`: the digest is of these deltas. Without
+//!   memory nothing that was lent has changed.
+//! - `laws`: what a key page finds is the table's live row; the tuples of a page, one by one; the units of an index.
 //!
 //! # Only tested
 //!
-//! - That `build` succeeds, on tables of up to 4,500 rows.
+//! That `build`, `Changes::of` and `patched` find memory where there is some.
 //!
 //! # Not said
 //!
-//! - Time: no clause says how many places a find looks at, or that it guesses well.
-//! - When there is no memory: `build` lets the table go then.
-//! - Room: bins are made in room for a word for each 31 rows, which they keep; how few words they have is not said.
+//! - Time: no clause says how many places a find looks at. Room: how few words a bin keeps of its room.
 //!
 //! # Example
 //!
 //! ```
-//! let base = Base::build(alloc, table, row_room)?;
-//! if let Content::Keys(keys) = base.content(Unit::Keys((key.order % 64) as u8)) {
-//!     let live = keys.find(&key);
-//! }
+//! let changes = Changes::of(alloc, &deltas)?;
+//! let content = patched_by(alloc, unit, base.content(unit), base.rows(), &changes, front.rows)?;
 //! ```
 #![tactic(auto)]
 

@@ -148,7 +148,8 @@ returns-in_ok-toggled-in-Bin-Bits c table leads =
     let old : c.in-Bin-Bits.bits ≡ map f table =
     same-bits c.in-Bin-Bits.bits (map f table)
     (sym c.in-Bin-Bits.is-1 ∙ leads.holds ∙ ap (λ (u : IndexUnit). content_of u table) c.in-Bin-Bits.is-0) in
-    ap content.Bits (toggled-list laws 16_777_216 u c.args.changes.now rows are c.deref-in-Bin-Bits.result.now turned table
+    ap content.Bits (toggled-list laws 16_777_216 u c.args.changes.now rows are c.deref-in-Bin-Bits.result.now turned
+    table
     leads.lawful c.args.rows_after leads.rows_become c.toggles.ensures.same f
     (bin-bit c.in-Bin-Bits.column c.in-Bin-Bits.bin) c.in-Bin-Bits.bits new old
     c.in_ok-toggled-in-Bin-Bits.ensures.length c.in_ok-toggled-in-Bin-Bits.ensures.rows)
@@ -162,7 +163,8 @@ patched-requires-in-Keys-Keys-clause-rising c =
     let list = c.index-changed.result.now in
     let inside : AreKeyChanges rest c.changes.inside.deltas.value list.items =
     subst (λ (v : Vec KeyChange Global). AreKeyChanges rest c.changes.inside.deltas.value v.items)
-    (sym (rw c.from-in-Keys-Keys.ensures at c.index-changed.ensures)) (c.changes.invariant.keys_are.each rest list low) in
+    (sym (rw c.from-in-Keys-Keys.ensures at c.index-changed.ensures))
+    (c.changes.invariant.keys_are.each rest list low) in
     let are : AreKeyChanges rest h c.deref-in-Keys-Keys.result.now =
     subst (λ (d : List Delta). AreKeyChanges rest d c.deref-in-Keys-Keys.result.now) c.changes.view_is
     (subst (λ (changes : List KeyChange). AreKeyChanges rest c.changes.inside.deltas.value changes)
@@ -177,7 +179,8 @@ returns-in_ok-patched-in-Keys-Keys c table leads =
     let list = c.index-changed.result.now in
     let inside : AreKeyChanges rest c.changes.inside.deltas.value list.items =
     subst (λ (v : Vec KeyChange Global). AreKeyChanges rest c.changes.inside.deltas.value v.items)
-    (sym (rw c.from-in-Keys-Keys.ensures at c.index-changed.ensures)) (c.changes.invariant.keys_are.each rest list low) in
+    (sym (rw c.from-in-Keys-Keys.ensures at c.index-changed.ensures))
+    (c.changes.invariant.keys_are.each rest list low) in
     let are : AreKeyChanges rest h c.deref-in-Keys-Keys.result.now =
     subst (λ (d : List Delta). AreKeyChanges rest d c.deref-in-Keys-Keys.result.now) c.changes.view_is
     (subst (λ (changes : List KeyChange). AreKeyChanges rest c.changes.inside.deltas.value changes)
