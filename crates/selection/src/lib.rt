@@ -1,0 +1,10 @@
+//! Queries over held versions: the rows that match a predicate, how many they are, and what they add up to.
+#![tactic(auto)]
+
+mod answer;
+mod query;
+mod scan;
+
+pub use answer::{CountAnswer, RowsAnswer, SumAnswer};
+pub use commit_log::Memory;
+pub use query::{count, rows, sum};
