@@ -1,2 +1,6 @@
-pub mod Candidates
 pub mod Answered
+pub mod Blocks
+pub mod Candidates
+pub mod Months
+pub mod Pages
+pub mod Scan

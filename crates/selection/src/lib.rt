@@ -1,7 +1,13 @@
 //! Queries over held versions: the rows that match a predicate, how many they are, and what they add up to.
 #![tactic(auto)]
 
+mod adding;
 mod answer;
+mod block;
+mod groups;
+mod matching;
+mod months;
+mod page_rows;
 mod query;
 mod scan;
 
