@@ -18,6 +18,7 @@ const _: () = prove!(PAGE_LENGTH == 3_968);
 
 /// The rows of 32 pages from the first on: which are candidates, and which have a month that is met in part. Where no
 /// month is, the latter is left over.
+#[derive(Drop)]
 pub(crate) struct Block {
     pub(crate) first: u32,
     pub(crate) candidates: [u32; BLOCK_GROUPS],

@@ -44,7 +44,7 @@ pub fn rows<S: VersionStore, N: Ledger, M: Ledger>(
     let plan = plan(predicate, false);
     let taken = take(alloc, log, store, base, &plan, tries, steps)?;
     let (front, patched) = (taken.front(), taken.patched());
-    let list = Scan::new(predicate, &plan, &taken, store, base).rows(alloc, front.rows, reads);
+    let list = Scan::new(predicate, &plan, plan.pages, &taken, store, base).rows(alloc, front.rows, reads);
     taken.close(store);
     Ok(RowsAnswer {
         list: list?,
@@ -80,7 +80,7 @@ pub fn count<S: VersionStore, N: Ledger, M: Ledger>(
     let plan = plan(predicate, false);
     let taken = take(alloc, log, store, base, &plan, tries, steps)?;
     let (front, patched) = (taken.front(), taken.patched());
-    let count = Scan::new(predicate, &plan, &taken, store, base).count(front.rows, reads);
+    let count = Scan::new(predicate, &plan, plan.pages, &taken, store, base).count(front.rows, reads);
     taken.close(store);
     Ok(CountAnswer {
         count,
@@ -117,7 +117,8 @@ pub fn sum<S: VersionStore, N: Ledger, M: Ledger>(
     let plan = plan(predicate, true);
     let taken = take(alloc, log, store, base, &plan, tries, steps)?;
     let (front, patched) = (taken.front(), taken.patched());
-    let totals = Scan::new(predicate, &plan, &taken, store, base).sum(front.rows, reads);
+    let cuts = column_bins::plan(predicate, false).pages;
+    let totals = Scan::new(predicate, &plan, cuts, &taken, store, base).sum(front.rows, reads);
     taken.close(store);
     Ok(SumAnswer {
         sum: totals.sum,

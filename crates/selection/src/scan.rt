@@ -26,7 +26,7 @@ use version_store::VersionStore;
 #[derive(Drop)]
 pub(crate) struct Scan<'t, S: VersionStore> {
     pub(crate) predicate: &'t Predicate,
-    pub(crate) plan: &'t Plan,
+    plan: &'t Plan,
     pub(crate) taken: &'t Taken<S>,
     pub(crate) store: &'t S,
     pub(crate) base: &'t Base,
@@ -46,6 +46,29 @@ impl<'t, S: VersionStore> Model for Scan<'t, S> {
 }
 
 impl<'t, S: VersionStore> Scan<'t, S> {
+    /// Of what was taken for a predicate's plan; `cuts` says whether the predicate meets some month in part.
+    pub(crate) fn new(
+        predicate: &'t Predicate,
+        plan: &'t Plan,
+        cuts: bool,
+        taken: &'t Taken<S>,
+        store: &'t S,
+        base: &'t Base,
+    ) -> Scan<'t, S>
+        requires { IsScan S.Log.terms (S.gave store.now) (S.shown store.now) base.now taken.now predicate.now plan.now
+            cuts }
+        ensures { result ≡ record { predicate = predicate.now; taken = taken.now } }
+    {
+        Scan {
+            predicate,
+            plan,
+            taken,
+            store,
+            base,
+            cuts,
+        }
+    }
+
     /// Writes what 32 pages from the first on have.
     pub(crate) fn read(&self, first: u32, block: &mut Block)
         requires { first ≤ 16_777_216 }
