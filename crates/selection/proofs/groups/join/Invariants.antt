@@ -1,0 +1,10 @@
+use Rattle.std.proofs.Common.{◌≡◌, ◌≤◌, ◌<◌, ℕ, length, slice_index}
+use Rattle.std.specs.Prelude.{bit_or}
+use Rattle.selection.proofs.groups.join.Given as goal
+
+abbrev pub invariant-loop-i : goal.invariant-loop-i
+invariant-loop-i l = record {
+  long : length l.groups ≡ length l.fn.groups;
+  done : (k : ℕ) → k < l.i → slice_index l.groups k ≡ bit_or (slice_index l.fn.groups k) (slice_index l.others k);
+  left : (k : ℕ) → l.i ≤ k → slice_index l.groups k ≡ slice_index l.fn.groups k;
+}

@@ -1,0 +1,24 @@
+use Rattle.std.proofs.Common.{◌≡◌, ◌<◌, ◌&&◌, get_or, refl, arith}
+use Rattle.std.specs.Prelude.{bit_and}
+use Rattle.std.proofs.lemmas.List.{get_or_default}
+use Rattle.std.proofs.lemmas.Nat.{and_le_l}
+use Rattle.selection.proofs.RowBits.{rows-by, row-of-and}
+use Rattle.selection.proofs.groups.keep.Goals as goal
+
+pub returns-clause-small : goal.returns-clause-small
+returns-clause-small c k d within =
+    let is = c.loop-i.invariant in
+    let old = get_or c.args.groups.now k 0 in
+    let inside : k < c.loop-i.i = omega (arith, within, is.long, c.loop-i-test.false) in
+    omega (
+      arith,
+      get_or_default c.loop-i.groups k d 0 within,
+      is.done k inside,
+      and_le_l old (get_or c.args.others.now k 0),
+      c.requires.small k 0 (omega (arith, within, is.long)),
+    )
+
+pub returns-clause-rows : goal.returns-clause-rows
+returns-clause-rows c =
+    rows-by bit_and ◌&&◌ c.args.groups.now c.args.others.now c.loop-i.groups refl row-of-and c.requires.long
+    c.loop-i.invariant.long (λ k within. c.loop-i.invariant.done k (omega (arith, within, c.loop-i.invariant.long, c.loop-i-test.false)))
