@@ -1,1 +1,2 @@
 mod RowBits
+mod Days
