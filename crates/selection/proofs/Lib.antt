@@ -1,2 +1,6 @@
 mod RowBits
 mod Days
+mod Telling
+mod Scanned
+mod Planning
+mod Admitting

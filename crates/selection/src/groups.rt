@@ -32,7 +32,7 @@ pub(crate) fn is_empty(groups: &[u32]) -> bool
 /// Keeps the rows that are true in the others too.
 pub(crate) fn keep(groups: &mut [u32], others: &[u32])
     requires long { length groups.old ≡ length others.now }
-    requires small { All (λ group. group < 2 ^ 31) groups.old }
+    requires small { All (λ group. group < 2 ^ 31) others.now }
     ensures small { All (λ group. group < 2 ^ 31) groups.new }
     ensures rows { (row : ℕ) → row_in groups.new row ≡ (row_in groups.old row && row_in others.now row) }
 {
@@ -89,4 +89,15 @@ pub(crate) fn page_of(groups: &[u32; BLOCK_GROUPS], k: u32) -> [u32; PAGE_GROUPS
     let mut page = [0; PAGE_GROUPS];
     page.copy_from_slice(&groups[from..from + PAGE_GROUPS]);
     page
+}
+
+/// Writes one of the 32 pages of groups; those before it stay.
+#[inline(always)]
+pub(crate) fn put_page(groups: &mut [u32; BLOCK_GROUPS], k: u32, page: &[u32; PAGE_GROUPS])
+    requires { k < 32 }
+    ensures before { (i : ℕ) → i < 128 * k → slice_index groups.new i ≡ slice_index groups.old i }
+    ensures page { (i : ℕ) → i < 128 → slice_index groups.new (128 * k + i) ≡ slice_index page.now i }
+{
+    let from = PAGE_GROUPS * k as usize;
+    groups[from..from + PAGE_GROUPS].copy_from_slice(page);
 }

@@ -12,7 +12,7 @@ ghost use Rattle.selection.specs.Candidates.{is_candidate_at, is_cut_at};
 ghost use Rattle.selection.specs.Scan.{HasTuples, IsScan, begins_at, has_bin_at, admits_at};
 
 use crate::block::Block;
-use crate::groups::{is_empty, join, keep, set_all};
+use crate::groups::{is_empty, join, keep, put_page, set_all};
 use crate::months::cut_months;
 use column_bins::{Column, Plan, Stretch};
 use cubit_base::Predicate;
@@ -21,6 +21,7 @@ use front_patch::{Taken, laws};
 use std::marker::Model;
 use unit_version::{Base, Unit};
 use version_store::VersionStore;
+use wah_words::laws::groups;
 
 /// A predicate, and versions that were taken for it, with the store and the base that show them.
 #[derive(Drop)]
@@ -114,12 +115,12 @@ impl<'t, S: VersionStore> Scan<'t, S> {
         ensures { Tells is_some (table_at S.Log.terms self.now.taken) first rows.new }
     {
         laws::units();
+        groups();
         let mut page = [0; PAGE_GROUPS];
         for k in 0..32 {
-            let from = PAGE_GROUPS * k as usize;
             self.taken
                 .window(self.store, self.base, Unit::Live, first + k, &mut page);
-            rows[from..from + PAGE_GROUPS].copy_from_slice(&page);
+            put_page(rows, k, &page);
         }
     }
 
@@ -130,6 +131,7 @@ impl<'t, S: VersionStore> Scan<'t, S> {
             Tells (λ tuple. test tuple && admits_at column (range_of column self.now.predicate) tuple)
                 (table_at S.Log.terms self.now.taken) first rows.new }
     {
+        laws::units();
         let Some(stretch) = stretch_of(self.plan, column) else {
             return;
         };
@@ -153,6 +155,7 @@ impl<'t, S: VersionStore> Scan<'t, S> {
             Contains (units_of self.now.taken.plan self.now.taken.pages) (Bin column bin) }
         ensures { Tells (has_bin_at column stretch) (table_at S.Log.terms self.now.taken) first out.new }
     {
+        groups();
         self.taken
             .stretch(self.store, self.base, column, stretch, first, out);
     }

@@ -1,7 +1,7 @@
 use Rattle.std.proofs.Common.{◌≡◌, ◌<◌, ◌&&◌, get_or, refl, arith}
 use Rattle.std.specs.Prelude.{bit_and}
 use Rattle.std.proofs.lemmas.List.{get_or_default}
-use Rattle.std.proofs.lemmas.Nat.{and_le_l}
+use Rattle.std.proofs.lemmas.Nat.{and_le_r}
 use Rattle.selection.proofs.RowBits.{rows-by, row-of-and}
 use Rattle.selection.proofs.groups.keep.Goals as goal
 
@@ -14,8 +14,8 @@ returns-clause-small c k d within =
       arith,
       get_or_default c.loop-i.groups k d 0 within,
       is.done k inside,
-      and_le_l old (get_or c.args.others.now k 0),
-      c.requires.small k 0 (omega (arith, within, is.long)),
+      and_le_r old (get_or c.args.others.now k 0),
+      c.requires.small k 0 (omega (arith, within, is.long, c.requires.long)),
     )
 
 pub returns-clause-rows : goal.returns-clause-rows
