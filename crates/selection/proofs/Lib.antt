@@ -4,3 +4,4 @@ mod Telling
 mod Scanned
 mod Planning
 mod Admitting
+mod Cutting

@@ -162,12 +162,12 @@ impl<'t, S: VersionStore> Scan<'t, S> {
 
     // Writes which rows of 32 pages have a month that is met in part.
     fn cut_rows(&self, first: u32, out: &mut [u32; BLOCK_GROUPS])
+        requires { has_part self.now.predicate.ship ≡ true }
         ensures { Tells (is_cut_at self.now.predicate) (table_at S.Log.terms self.now.taken) first out.new }
     {
-        let (Some(range), Some(met)) = (self.predicate.ship, self.plan.ship) else {
-            out.fill(0);
-            return;
-        };
+        laws::units();
+        let met = self.plan.ship.unwrap();
+        let range = self.predicate.ship.unwrap();
         let (low, high) = cut_months(&range, met);
         let mut others = [0; BLOCK_GROUPS];
         self.stretch(Column::Ship, low, first, out);
