@@ -5,3 +5,5 @@ mod Scanned
 mod Planning
 mod Admitting
 mod Cutting
+mod Parts
+mod Dropping

@@ -1,6 +1,7 @@
 //! Rows of one page, by their tuples.
-ghost use Rattle.std.specs.Prelude.{◌≡◌, ◌≢◌, ◌+◌, ◌*◌, ◌^◌, ◌<◌, ◌≤◌, ◌++◌, ◌&&◌, not, ℕ, true, false, All, length, map, count_by, sum_by, OnOk};
-ghost use Rattle.column_bins.specs.Plan.{has_part};
+ghost use Rattle.std.specs.Prelude.{◌≡◌, ◌≢◌, ◌+◌, ◌*◌, ◌^◌, ◌<◌, ◌≤◌, ◌++◌, ◌&&◌, not, ℕ, true, false, All, length, map, if◌then◌else◌, OnOk};
+ghost use Rattle.cubit_base.specs.Predicate.{matches};
+ghost use Rattle.column_bins.specs.Plan.{has_part, is_candidate};
 ghost use Rattle.wah_words.specs.Rows.{has};
 ghost use Rattle.front_patch.specs.Bits.{row_in};
 ghost use Rattle.front_patch.specs.PageAtFront.{tuple_here};
@@ -83,11 +84,26 @@ fn share(predicate: &Predicate, cuts: bool, tuple: &Option<Tuple>) -> (u32, u64)
     ensures sum { result.1 ≡ amount_at predicate.now tuple.now }
     ensures bound { result.1 ≤ 999_999_990 }
 {
-    candidates();
     match tuple {
-        Some(tuple) if !cuts || predicate.matches(tuple) => (1, tuple.amount()),
+        Some(tuple) if passes(predicate, cuts, tuple) => (1, tuple.amount()),
         _ => (0, 0),
     }
+}
+
+// Whether a candidate matches: its day decides only where some month is met in part.
+#[inline(always)]
+fn passes(predicate: &Predicate, cuts: bool, tuple: &Tuple) -> bool
+    requires candidate { is_candidate predicate.now tuple.now ≡ true }
+    requires cuts { cuts ≡ has_part predicate.now.ship }
+    ensures { result ≡ matches predicate.now tuple.now }
+{
+    candidates();
+    if cuts {
+        return predicate.matches(tuple);
+    }
+    // From here on it is known that the tuple is within its ranges.
+    let _day = tuple.day;
+    true
 }
 
 /// Puts the numbers of a page's rows at these places behind the list.
