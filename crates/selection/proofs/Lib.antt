@@ -7,3 +7,7 @@ mod Admitting
 mod Cutting
 mod Parts
 mod Dropping
+mod Tuples
+mod Places
+mod Answering
+mod Paging

@@ -1,22 +1,25 @@
 //! The rows that match, page by page: tuples are read only where the day decides.
-ghost use Rattle.std.specs.Prelude.{◌≡◌, ◌+◌, ◌*◌, ◌^◌, ◌≤◌, ◌<◌, ◌++◌, ℕ, map, length, count_by, OnOk, IfOk};
+ghost use Rattle.std.specs.Prelude.{◌≡◌, true, ◌+◌, ◌*◌, ◌^◌, ◌≤◌, ◌<◌, ◌++◌, ℕ, map, length, count_by, OnOk, IfOk};
 ghost use Rattle.cubit_base.specs.Answer.{answer};
+ghost use Rattle.column_bins.specs.Plan.{has_part};
 ghost use Rattle.unit_version.specs.Content.{tuples_from};
 ghost use Rattle.wah_words.specs.Rows.{true_places as places_of};
 ghost use Rattle.front_patch.specs.Taken.{table_at};
 ghost use Rattle.selection.specs.Blocks.{Tells, IsBlock};
-ghost use Rattle.selection.specs.Candidates.{is_match_at, is_part_at, part_count};
+ghost use Rattle.selection.specs.Candidates.{is_candidate_at, is_match_at, is_part_at, part_count};
 
 use crate::block::{BLOCK_PAGES, BLOCK_ROWS, Block, PAGE_LENGTH};
 use crate::groups::{is_empty, keep, page_of};
 use crate::page_rows::{drop_others, push_rows};
 use crate::scan::Scan;
+use column_bins::laws::candidates;
 use commit_log::Memory;
 use cubit_base::{RowList, Steps};
 use fence_window::{PAGE_GROUPS, PAGE_ROWS};
 use std::alloc::Global;
 use std::sync::ledger::Ledger;
 use version_store::VersionStore;
+use wah_words::laws::rows_of_groups;
 use wah_words::{true_places, true_rows_of};
 
 impl<'t, S: VersionStore> Scan<'t, S> {
@@ -140,7 +143,16 @@ impl<'t, S: VersionStore> Scan<'t, S> {
         rows: &mut [u32; PAGE_GROUPS],
         places: &mut [u16; PAGE_LENGTH],
         reads: &mut Steps<M>,
-    ) {
+    )
+        requires cuts { has_part self.now.predicate.ship ≡ true }
+        requires part { Tells (is_part_at self.now.predicate) (table_at S.Log.terms self.now.taken) page part.now }
+        requires rows { Tells (is_candidate_at self.now.predicate) (table_at S.Log.terms self.now.taken) page rows.old }
+        ensures rows { Tells (is_match_at self.now.predicate) (table_at S.Log.terms self.now.taken) page rows.new }
+        ensures reads { reads.new ≡ reads.old + count_by (is_part_at self.now.predicate)
+            (tuples_from (table_at S.Log.terms self.now.taken) (3_968 * page) 3_968) }
+    {
+        rows_of_groups();
+        candidates();
         let len = true_places(part, places);
         let tuples = self.taken.page(self.store, self.base, page);
         drop_others(&tuples, &places[..len], self.predicate, rows, reads);

@@ -1,0 +1,138 @@
+-- The rows of a page's groups, by their places and their tuples.
+use Rattle.std.proofs.Common.{◌≡◌, ℕ, zero, suc, ◌+◌, ◌*◌, ◌/◌, ◌%◌, ◌^◌, ◌<◌, ◌≤◌, ◌∙◌, ◌&&◌, not, Bool, true, false, List, [], ◌∷◌, ◌++◌, length, map, take, get_or, All, Option, Some, None, refl, sym, ap, subst, arith, filter, count_by, length-append}
+use Rattle.std.proofs.lemmas.List.{ext_get_or, get_or-map, length-map}
+use Rattle.std.proofs.lemmas.List.Sums.{length-filter}
+use Rattle.cubit_base.specs.Predicate.{matches}
+use Rattle.cubit_base.specs.Table.{Row}
+use Rattle.cubit_base.specs.Tuple.{TupleValue, IsTuple}
+use Rattle.cubit_base.specs.LiveRow.{tuple_at}
+use Rattle.cubit_base.specs.declared.predicate.Predicate.{Predicate}
+use Rattle.column_bins.specs.Plan.{is_candidate, is_in_part}
+use Rattle.unit_version.specs.Content.{tuples_from}
+use Rattle.wah_words.specs.Group.{group_row, low_bits, group_rows, unpacked}
+use Rattle.wah_words.specs.Rows.{has, true_places}
+use Rattle.front_patch.specs.Bits.{row_in}
+use Rattle.selection.specs.Blocks.{Tells}
+use Rattle.selection.specs.Candidates.{is_candidate_at, is_cut_at, is_match_at, is_part_at}
+use Rattle.selection.specs.Scan.{HasTuples}
+use Rattle.selection.proofs.Places.{places-below, places-has, places-tuples}
+use Rattle.selection.proofs.Tuples.{from-at, from-length}
+
+-- ---- unpacked groups
+
+length-bits : (n x : ℕ) → length (low_bits n x) ≡ n
+unfolding low_bits
+length-bits zero x = refl
+length-bits (suc n) x = ap suc (length-bits n (x / 2))
+
+pub length-unpacked : (groups : List ℕ) → length (unpacked groups) ≡ 31 * length groups
+unfolding group_rows
+length-unpacked [] = refl
+length-unpacked (group ∷ groups) =
+    length-append (low_bits 31 group) (unpacked groups)
+    ∙ ap (λ n. n + length (unpacked groups)) (length-bits 31 group)
+    ∙ ap (λ n. 31 + n) (length-unpacked groups) ∙ more (length groups) where
+  more : (n : ℕ) → 31 + 31 * n ≡ 31 * suc n
+  more n = omega arith
+
+-- the law of rows of groups
+abbrev pub RowLaw : Type 0
+RowLaw = (groups : List ℕ) (row : ℕ) →
+    get_or (unpacked groups) row false ≡ group_row (get_or groups (row / 31) 0) (row % 31)
+
+-- what groups tell, as one list
+pub unpacked-tells : (test : Option TupleValue → Bool) (table : List Row) (page n : ℕ) (groups : List ℕ) → RowLaw →
+    31 * length groups ≡ n → Tells test table page groups →
+    unpacked groups ≡ map test (tuples_from table (3968 * page) n)
+unpacked-tells test table page n groups law long tells =
+    let ts = tuples_from table (3968 * page) n in
+    ext_get_or false (unpacked groups) (map test ts)
+    (length-unpacked groups ∙ long ∙ sym (from-length table (3968 * page) n) ∙ sym (length-map ts test))
+    (λ row within.
+    let inside : row < n = omega (arith, within, length-unpacked groups, long) in
+    law groups row ∙ tells.each row (omega (arith, inside, long))
+    ∙ ap test (sym (from-at table (3968 * page) n row inside))
+    ∙ sym (get_or-map test ts row None false (omega (arith, inside, from-length table (3968 * page) n))))
+
+-- ---- a page's places
+
+-- the places of the rows of a page that pass
+abbrev pub page_places : (Option TupleValue → Bool) → List Row → ℕ → List ℕ
+page_places test table page = true_places 0 (map test (tuples_from table (3968 * page) 3968))
+
+pub page-below : (test : Option TupleValue → Bool) (table : List Row) (page : ℕ) →
+    All (λ place. place < 3968) (page_places test table page)
+page-below test table page =
+    let ts = tuples_from table (3968 * page) 3968 in
+    let none : 0 + length (map test ts) ≡ length (map test ts) = omega arith in
+    subst (λ n. All (λ place. place < n) (true_places 0 (map test ts)))
+    (none ∙ length-map ts test ∙ from-length table (3968 * page) 3968) (places-below 0 (map test ts))
+
+pub page-tuples : (test : Option TupleValue → Bool) (table : List Row) (page : ℕ) →
+    map (λ place. tuple_at table (3968 * page + place)) (page_places test table page)
+    ≡ filter test (tuples_from table (3968 * page) 3968)
+page-tuples test table page =
+    let none : 3968 * page + 0 ≡ 3968 * page = omega arith in
+    ap (λ row. map (λ place. tuple_at table (3968 * page + place)) (true_places 0 (map test (tuples_from table row 3968))))
+    (sym none) ∙ places-tuples test table (3968 * page) 0 3968 ∙ ap (λ row. filter test (tuples_from table row 3968)) none
+
+pub page-count : (test : Option TupleValue → Bool) (table : List Row) (page : ℕ) →
+    length (page_places test table page) ≡ count_by test (tuples_from table (3968 * page) 3968)
+page-count test table page =
+    sym (length-map (page_places test table page) (λ place. tuple_at table (3968 * page + place)))
+    ∙ ap length (page-tuples test table page) ∙ length-filter test (tuples_from table (3968 * page) 3968)
+
+pub page-has : (test : Option TupleValue → Bool) (table : List Row) (page row : ℕ) → row < 3968 →
+    has (page_places test table page) row ≡ test (tuple_at table (3968 * page + row))
+page-has test table page row within =
+    let ts = tuples_from table (3968 * page) 3968 in
+    let none : 0 + row ≡ row = omega arith in
+    ap (has (true_places 0 (map test ts))) (sym none) ∙ places-has 0 (map test ts) row
+    ∙ get_or-map test ts row None false (omega (arith, within, from-length table (3968 * page) 3968))
+    ∙ ap test (from-at table (3968 * page) 3968 row within)
+
+-- ---- candidates that match
+
+-- the laws of candidates
+pub record CandidateLaws : Type 0 where
+  pub all : (p : Predicate) (t : TupleValue) → IsTuple t → matches p t ≡ true → is_candidate p t ≡ true
+  pub exact : (p : Predicate) (t : TupleValue) → IsTuple t → is_candidate p t ≡ true → is_in_part p t ≡ false →
+      matches p t ≡ true
+
+settled : (candidate part match : Bool) → (match ≡ true → candidate ≡ true) →
+    (candidate ≡ true → part ≡ false → match ≡ true) →
+    (candidate && not ((candidate && part) && not match)) ≡ match
+settled true true true all exact = refl
+settled true true false all exact = refl
+settled true false match all exact = sym (exact refl refl)
+settled false part true all exact = all refl
+settled false part false all exact = refl
+
+pub settled-match : (p : Predicate) (tuple : Option TupleValue) → CandidateLaws →
+    ((t : TupleValue) → tuple ≡ Some t → IsTuple t) →
+    (is_candidate_at p tuple && not (is_part_at p tuple && not (is_match_at p tuple))) ≡ is_match_at p tuple
+settled-match p None laws fits = refl
+settled-match p (Some t) laws fits =
+    settled (is_candidate p t) (is_in_part p t) (matches p t) (laws.all p t (fits t refl)) (laws.exact p t (fits t refl))
+
+-- a page from which the candidates were dropped that do not match
+pub settled-page : (p : Predicate) (table : List Row) (page : ℕ) (here : ℕ → Option TupleValue) (old new places : List ℕ) →
+    CandidateLaws → HasTuples table → length old ≡ 128 → length new ≡ 128 → All (λ group. group < 2 ^ 31) new →
+    ((at : ℕ) → at < 3968 → here at ≡ tuple_at table (3968 * page + at)) → Tells (is_candidate_at p) table page old →
+    places ≡ page_places (is_part_at p) table page →
+    ((row : ℕ) → row_in new row ≡ (row_in old row && not (has places row && not (is_match_at p (here row))))) →
+    Tells (is_match_at p) table page new
+settled-page p table page here old new places laws fits long-old long small tuples candidates are rows = record {
+  small = small;
+  each = λ row within.
+      let low : row < 3968 = omega (arith, within, long) in
+      let tuple = tuple_at table (3968 * page + row) in
+      rows row
+      ∙ ap (λ b. b && not (has places row && not (is_match_at p (here row))))
+      (candidates.each row (omega (arith, low, long-old)))
+      ∙ ap (λ (ps : List ℕ). is_candidate_at p tuple && not (has ps row && not (is_match_at p (here row)))) are
+      ∙ ap (λ b. is_candidate_at p tuple && not (b && not (is_match_at p (here row))))
+      (page-has (is_part_at p) table page row low)
+      ∙ ap (λ t. is_candidate_at p tuple && not (is_part_at p tuple && not (is_match_at p t))) (tuples row low)
+      ∙ settled-match p tuple laws (fits (3968 * page + row));
+}
