@@ -1,5 +1,6 @@
 -- The rows of a page's groups, by their places and their tuples.
 use Rattle.std.proofs.Common.{◌≡◌, ℕ, zero, suc, ◌+◌, ◌*◌, ◌/◌, ◌%◌, ◌^◌, ◌<◌, ◌≤◌, ◌∙◌, ◌&&◌, not, Bool, true, false, List, [], ◌∷◌, ◌++◌, length, map, take, get_or, All, Option, Some, None, refl, sym, ap, subst, arith, filter, count_by, length-append}
+use Rattle.std.proofs.lemmas.Bool.{and_right}
 use Rattle.std.proofs.lemmas.List.{ext_get_or, get_or-map, length-map}
 use Rattle.std.proofs.lemmas.List.Sums.{length-filter}
 use Rattle.cubit_base.specs.Predicate.{matches}
@@ -7,7 +8,8 @@ use Rattle.cubit_base.specs.Table.{Row}
 use Rattle.cubit_base.specs.Tuple.{TupleValue, IsTuple}
 use Rattle.cubit_base.specs.LiveRow.{tuple_at}
 use Rattle.cubit_base.specs.declared.predicate.Predicate.{Predicate}
-use Rattle.column_bins.specs.Plan.{is_candidate, is_in_part}
+use Rattle.cubit_base.specs.declared.predicate.Range.{Range}
+use Rattle.column_bins.specs.Plan.{has_part, is_candidate, is_in_part, is_part_of}
 use Rattle.unit_version.specs.Content.{tuples_from}
 use Rattle.wah_words.specs.Group.{group_row, low_bits, group_rows, unpacked}
 use Rattle.wah_words.specs.Rows.{has, true_places}
@@ -15,6 +17,7 @@ use Rattle.front_patch.specs.Bits.{row_in}
 use Rattle.selection.specs.Blocks.{Tells}
 use Rattle.selection.specs.Candidates.{is_candidate_at, is_cut_at, is_match_at, is_part_at}
 use Rattle.selection.specs.Scan.{HasTuples}
+use Rattle.selection.proofs.Parts.{none-part}
 use Rattle.selection.proofs.Places.{places-below, places-has, places-tuples}
 use Rattle.selection.proofs.Tuples.{from-at, from-length}
 
@@ -136,3 +139,42 @@ settled-page p table page here old new places laws fits long-old long small tupl
       ∙ ap (λ t. is_candidate_at p tuple && not (is_part_at p tuple && not (is_match_at p t))) (tuples row low)
       ∙ settled-match p tuple laws (fits (3968 * page + row));
 }
+
+-- ---- pages of which no day decides
+
+pub no-part : (p : Predicate) (range : Option Range) (tuple : Option TupleValue) → p.ship ≡ range →
+    has_part range ≡ false → is_part_at p tuple ≡ false
+no-part p range None is none = refl
+no-part p range (Some t) is none =
+    and_right (is_candidate p t) (is_in_part p t)
+    (ap (λ (r : Option Range). is_part_of r t.day) is ∙ none-part range t.day none)
+
+all-match : (candidate part match : Bool) → (candidate && not (part && not match)) ≡ match → part ≡ false →
+    candidate ≡ match
+all-match true part match same none = ap (λ b. not (b && not match)) (sym none) ∙ same
+all-match false part match same none = same
+
+-- there the candidates match
+pub tells-match : (p : Predicate) (table : List Row) (page : ℕ) (groups : List ℕ) → CandidateLaws → HasTuples table →
+    length groups ≡ 128 →
+    ((row : ℕ) → row < 3968 → is_part_at p (tuple_at table (3968 * page + row)) ≡ false) →
+    Tells (is_candidate_at p) table page groups → Tells (is_match_at p) table page groups
+tells-match p table page groups laws fits long none candidates = record {
+  small = candidates.small;
+  each = λ row within.
+      let tuple = tuple_at table (3968 * page + row) in
+      candidates.each row within
+      ∙ all-match (is_candidate_at p tuple) (is_part_at p tuple) (is_match_at p tuple)
+      (settled-match p tuple laws (fits (3968 * page + row))) (none row (omega (arith, within, long)));
+}
+
+-- the rows of a page that are in both of two
+turned : (a b : Bool) → (a && b) ≡ (b && a)
+turned true true = refl
+turned true false = refl
+turned false true = refl
+turned false false = refl
+
+pub part-turned : (p : Predicate) (tuple : Option TupleValue) →
+    (is_cut_at p tuple && is_candidate_at p tuple) ≡ is_part_at p tuple
+part-turned p tuple = turned (is_cut_at p tuple) (is_candidate_at p tuple)

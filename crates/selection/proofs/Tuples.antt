@@ -94,3 +94,20 @@ sum-filter f test (x ∷ xs) none =
       sum_by f (cond b (y ∷ ys) ys) ≡ f y + sum_by f ys
   sum-kept true y ys none = sum_by-cons f y ys
   sum-kept false y ys none = omega (arith, none refl)
+
+-- none of them passes
+pub count-none : (test : Option TupleValue → Bool) (table : List Row) (row n : ℕ) →
+    ((i : ℕ) → i < n → test (tuple_at table (row + i)) ≡ false) → count_by test (tuples_from table row n) ≡ 0
+unfolding tuples_from
+count-none test table row zero none = refl
+count-none test table row (suc n) none =
+    let here : row + 0 ≡ row = omega arith in
+    sum_by-cons (λ t. cond (test t) 1 0) (tuple_at table row) (tuples_from table (row + 1) n)
+    ∙ ap (λ b. cond b 1 0 + count_by test (tuples_from table (row + 1) n))
+    (ap (λ k. test (tuple_at table k)) (sym here) ∙ none 0 (omega arith))
+    ∙ ap (λ k. 0 + k) (count-none test table (row + 1) n (λ i within.
+    let next : row + 1 + i ≡ row + suc i = omega arith in
+    ap (λ k. test (tuple_at table k)) next ∙ none (suc i) (omega (arith, within))))
+    ∙ zero-sum where
+  zero-sum : 0 + 0 ≡ 0
+  zero-sum = omega arith

@@ -1,7 +1,10 @@
 //! Rows of groups.
-ghost use Rattle.std.specs.Prelude.{◌≡◌, ◌+◌, ◌*◌, ◌^◌, ◌<◌, ◌==◌, ◌&&◌, ◌||◌, not, ℕ, true, false, All, length, slice_index};
+ghost use Rattle.std.specs.Prelude.{◌≡◌, ◌+◌, ◌*◌, ◌^◌, ◌<◌, ◌==◌, ◌&&◌, ◌||◌, not, ℕ, Bool, List, Option, true, false, All, length, slice_index};
 ghost use Rattle.wah_words.specs.Group.{group_row};
 ghost use Rattle.front_patch.specs.Bits.{row_in};
+ghost use Rattle.cubit_base.specs.Table.{Row};
+ghost use Rattle.cubit_base.specs.Tuple.{TupleValue};
+ghost use Rattle.selection.specs.Blocks.{Tells};
 
 use fence_window::{BLOCK_GROUPS, PAGE_GROUPS};
 
@@ -83,7 +86,9 @@ fn without(group: u32, place: u32, dropped: bool) -> u32
 #[inline(always)]
 pub(crate) fn page_of(groups: &[u32; BLOCK_GROUPS], k: u32) -> [u32; PAGE_GROUPS]
     requires { k < 32 }
-    ensures { (i : ℕ) → i < 128 → slice_index result i ≡ slice_index groups.now (128 * k + i) }
+    ensures long { length result ≡ 128 }
+    ensures tells { (test : Option TupleValue → Bool) (table : List Row) (first : ℕ) →
+        Tells test table first groups.now → Tells test table (first + k) result }
 {
     let from = PAGE_GROUPS * k as usize;
     let mut page = [0; PAGE_GROUPS];

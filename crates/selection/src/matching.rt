@@ -124,14 +124,17 @@ impl<'t, S: VersionStore> Scan<'t, S> {
         ensures reads { reads.new ≡ reads.old + count_by (is_part_at self.now.predicate)
             (tuples_from (table_at S.Log.terms self.now.taken) (3_968 * (block.now.first + k)) 3_968) }
     {
+        candidates();
         let mut rows = page_of(&block.candidates, k);
-        if self.cuts {
-            let mut part = page_of(&block.cut, k);
-            keep(&mut part, &rows);
-            if !is_empty(&part) {
-                self.settle(block.first + k, &part, &mut rows, places, reads);
-            }
+        if !self.cuts {
+            return rows;
         }
+        let mut part = page_of(&block.cut, k);
+        keep(&mut part, &rows);
+        if is_empty(&part) {
+            return rows;
+        }
+        self.settle(block.first + k, &part, &mut rows, places, reads);
         rows
     }
 
