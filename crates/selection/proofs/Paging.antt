@@ -12,14 +12,14 @@ use Rattle.cubit_base.specs.declared.predicate.Range.{Range}
 use Rattle.column_bins.specs.Plan.{has_part, is_candidate, is_in_part, is_part_of}
 use Rattle.unit_version.specs.Content.{tuples_from}
 use Rattle.wah_words.specs.Group.{group_row, low_bits, group_rows, unpacked}
-use Rattle.wah_words.specs.Rows.{has, true_places}
+use Rattle.wah_words.specs.Rows.{has, true_count, true_places}
 use Rattle.front_patch.specs.Bits.{row_in}
 use Rattle.selection.specs.Blocks.{Tells}
 use Rattle.selection.specs.Candidates.{is_candidate_at, is_cut_at, is_match_at, is_part_at}
 use Rattle.selection.specs.Scan.{HasTuples}
 use Rattle.selection.proofs.Parts.{none-part}
 use Rattle.selection.proofs.Places.{places-below, places-has, places-tuples}
-use Rattle.selection.proofs.Tuples.{from-at, from-length}
+use Rattle.selection.proofs.Tuples.{count-map, from-at, from-length}
 
 -- ---- unpacked groups
 
@@ -178,3 +178,11 @@ turned false false = refl
 pub part-turned : (p : Predicate) (tuple : Option TupleValue) →
     (is_cut_at p tuple && is_candidate_at p tuple) ≡ is_part_at p tuple
 part-turned p tuple = turned (is_cut_at p tuple) (is_candidate_at p tuple)
+
+-- how many rows of a page are true
+pub page-true : (test : Option TupleValue → Bool) (table : List Row) (page : ℕ) (groups : List ℕ) → RowLaw →
+    length groups ≡ 128 → Tells test table page groups →
+    true_count (unpacked groups) ≡ count_by test (tuples_from table (3968 * page) 3968)
+page-true test table page groups law long tells =
+    ap true_count (unpacked-tells test table page 3968 groups law (omega (arith, long)) tells)
+    ∙ count-map test (tuples_from table (3968 * page) 3968)

@@ -3,7 +3,7 @@ use Rattle.std.proofs.Common.{◌≡◌, ℕ, zero, suc, ◌+◌, ◌-◌, ◌*�
 use Rattle.std.proofs.lemmas.List.{map-append}
 use Rattle.std.proofs.lemmas.List.Elements.{All-nil, All-cons}
 use Rattle.std.proofs.lemmas.List.Folds.{sum_by-replicate}
-use Rattle.std.proofs.lemmas.List.Sums.{sum_by-append, sum_by-cons}
+use Rattle.std.proofs.lemmas.List.Sums.{sum_by-append, sum_by-cons, count_by-le-length}
 use Rattle.cubit_base.specs.Table.{Row}
 use Rattle.cubit_base.specs.Tuple.{TupleValue}
 use Rattle.cubit_base.specs.LiveRow.{tuple_at}
@@ -111,3 +111,27 @@ count-none test table row (suc n) none =
     ∙ zero-sum where
   zero-sum : 0 + 0 ≡ 0
   zero-sum = omega arith
+
+-- one stretch more
+pub sum-more : (f : Option TupleValue → ℕ) (table : List Row) (first k : ℕ) →
+    sum_by f (tuples_from table (3968 * first) (3968 * (k + 1)))
+    ≡ sum_by f (tuples_from table (3968 * first) (3968 * k)) + sum_by f (tuples_from table (3968 * (first + k)) 3968)
+sum-more f table first k =
+    let more : 3968 * (k + 1) ≡ 3968 * k + 3968 = omega arith in
+    let next : 3968 * first + 3968 * k ≡ 3968 * (first + k) = omega arith in
+    ap (λ n. sum_by f (tuples_from table (3968 * first) n)) more
+    ∙ ap (sum_by f) (from-add table (3968 * first) (3968 * k) 3968)
+    ∙ sum_by-append f (tuples_from table (3968 * first) (3968 * k)) (tuples_from table (3968 * first + 3968 * k) 3968)
+    ∙ ap (λ n. sum_by f (tuples_from table (3968 * first) (3968 * k)) + sum_by f (tuples_from table n 3968)) next
+
+pub count-few : (test : Option TupleValue → Bool) (table : List Row) (row n : ℕ) →
+    count_by test (tuples_from table row n) ≤ n
+count-few test table row n = omega (arith, count_by-le-length test (tuples_from table row n), from-length table row n)
+
+-- as many truth values are true as tuples pass
+pub count-map : {X : Type 0} (test : X → Bool) (xs : List X) → count_by (λ b. b) (map test xs) ≡ count_by test xs
+count-map test xs = sum-map (λ b. cond b 1 0) test xs
+
+pub sum-none : (f : Option TupleValue → ℕ) (table : List Row) (row : ℕ) → sum_by f (tuples_from table row 0) ≡ 0
+unfolding tuples_from
+sum-none f table row = refl

@@ -53,6 +53,7 @@ impl<'t, S: VersionStore> Scan<'t, S> {
         ensures reads { reads.new ≡ reads.old + count_by (is_part_at self.now.predicate)
             (tuples_from (table_at S.Log.terms self.now.taken) (3_968 * block.now.first) 126_976) }
     {
+        rows_of_groups();
         let mut count = 0;
         for k in 0..BLOCK_PAGES {
             let page = self.matching(block, k, places, reads);
@@ -119,6 +120,7 @@ impl<'t, S: VersionStore> Scan<'t, S> {
     ) -> [u32; PAGE_GROUPS]
         requires block { IsBlock self.now.predicate (table_at S.Log.terms self.now.taken) block.now }
         requires k { k < 32 }
+        ensures long { length result ≡ 128 }
         ensures rows { Tells (is_match_at self.now.predicate) (table_at S.Log.terms self.now.taken)
             (block.now.first + k) result }
         ensures reads { reads.new ≡ reads.old + count_by (is_part_at self.now.predicate)
