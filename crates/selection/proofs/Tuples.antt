@@ -135,3 +135,15 @@ count-map test xs = sum-map (λ b. cond b 1 0) test xs
 pub sum-none : (f : Option TupleValue → ℕ) (table : List Row) (row : ℕ) → sum_by f (tuples_from table row 0) ≡ 0
 unfolding tuples_from
 sum-none f table row = refl
+
+-- a block more of 32 pages
+pub sum-block : (f : Option TupleValue → ℕ) (table : List Row) (n : ℕ) →
+    sum_by f (tuples_from table 0 (126976 * (n + 1)))
+    ≡ sum_by f (tuples_from table 0 (126976 * n)) + sum_by f (tuples_from table (3968 * (32 * n)) 126976)
+sum-block f table n =
+    let more : 126976 * (n + 1) ≡ 126976 * n + 126976 = omega arith in
+    let next : 0 + 126976 * n ≡ 3968 * (32 * n) = omega arith in
+    ap (λ k. sum_by f (tuples_from table 0 k)) more
+    ∙ ap (sum_by f) (from-add table 0 (126976 * n) 126976)
+    ∙ sum_by-append f (tuples_from table 0 (126976 * n)) (tuples_from table (0 + 126976 * n) 126976)
+    ∙ ap (λ k. sum_by f (tuples_from table 0 (126976 * n)) + sum_by f (tuples_from table k 126976)) next
