@@ -103,11 +103,12 @@ numbers p n [] = refl
 numbers p n (r ∷ table) =
     ap (λ b. cond b (n ∷ true_places (n + 1) (map (λ r. is_match_at p r.1) table))
     (true_places (n + 1) (map (λ r. is_match_at p r.1) table))) (sym (same-match p r))
-    ∙ kept (is_match p r) (numbers p (n + 1) table) where
-  kept : (b : Bool) {ps : List ℕ} {rs : List (ℕ × Row)} → ps ≡ map (λ r. r.0) rs →
+    ∙ kept (is_match p r) (true_places (n + 1) (map (λ r. is_match_at p r.1) table))
+    (filter (λ r. is_match p r.1) (enumerate_from (n + 1) table)) (numbers p (n + 1) table) where
+  kept : (b : Bool) (ps : List ℕ) (rs : List (ℕ × Row)) → ps ≡ map (λ r. r.0) rs →
       cond b (n ∷ ps) ps ≡ map (λ r. r.0) (cond b ((n, r) ∷ rs) rs)
-  kept true same = ap (λ ps. n ∷ ps) same
-  kept false same = same
+  kept true ps rs same = ap (λ ps. n ∷ ps) same
+  kept false ps rs same = same
 
 pub answer-rows : (p : Predicate) (table : List Row) (n : ℕ) → length table ≤ n →
     true_places 0 (map (is_match_at p) (tuples_from table 0 n)) ≡ (answer table p).rows

@@ -1,6 +1,7 @@
 -- The places of true rows.
 use Rattle.std.proofs.Common.{◌≡◌, ℕ, zero, suc, ◌+◌, ◌-◌, ◌*◌, ◌==◌, ◌<◌, ◌≤◌, ◌∙◌, ◌||◌, Bool, true, false, cond, List, [], ◌∷◌, ◌++◌, length, map, get_or, All, Option, Some, None, refl, sym, ap, arith, filter, sum_by, count_by}
 use Rattle.std.proofs.lemmas.Bool.{eq-eqb, ne_eqb}
+use Rattle.std.proofs.lemmas.List.{length-map, map-append}
 use Rattle.std.proofs.lemmas.List.Elements.{All-nil, All-cons}
 use Rattle.std.proofs.lemmas.List.Sums.{sum_by-cons}
 use Rattle.cubit_base.specs.Table.{Row}
@@ -8,6 +9,7 @@ use Rattle.cubit_base.specs.Tuple.{TupleValue}
 use Rattle.cubit_base.specs.LiveRow.{tuple_at}
 use Rattle.unit_version.specs.Content.{tuples_from}
 use Rattle.wah_words.specs.Rows.{has, true_places}
+use Rattle.selection.proofs.Tuples.{from-add, from-length}
 
 pub places-append : (first : ℕ) (a b : List Bool) →
     true_places first (a ++ b) ≡ true_places first a ++ true_places (first + length a) b
@@ -85,3 +87,31 @@ places-has first (true ∷ rows) (suc row) =
 places-has first (false ∷ rows) (suc row) =
     let next : first + suc row ≡ first + 1 + row = omega arith in
     ap (has (true_places (first + 1) rows)) next ∙ places-has (first + 1) rows row
+
+pub places-few : (first : ℕ) (rows : List Bool) → length (true_places first rows) ≤ length rows
+unfolding true_places
+places-few first [] = omega arith
+places-few first (true ∷ rows) =
+    let one = ap (λ (n : ℕ). n) (length-cons first (true_places (first + 1) rows)) in
+    omega (arith, one, length-cons true rows, places-few (first + 1) rows) where
+  length-cons : {X : Type 0} (x : X) (xs : List X) → length (x ∷ xs) ≡ suc (length xs)
+  length-cons x xs = refl
+places-few first (false ∷ rows) = omega (arith, places-few (first + 1) rows)
+
+-- the places of one page more, or of one block of 32 pages more
+pub places-more : (test : Option TupleValue → Bool) (table : List Row) (row a b next : ℕ) → row + a ≡ next →
+    true_places row (map test (tuples_from table row (a + b)))
+    ≡ true_places row (map test (tuples_from table row a)) ++ true_places next (map test (tuples_from table next b))
+places-more test table row a b next is =
+    let ts = tuples_from table row a in
+    let long = length-map ts test ∙ from-length table row a in
+    ap (λ xs. true_places row (map test xs)) (from-add table row a b)
+    ∙ ap (true_places row) (map-append test ts (tuples_from table (row + a) b))
+    ∙ places-append row (map test ts) (map test (tuples_from table (row + a) b))
+    ∙ ap (λ n. true_places row (map test ts) ++ true_places (row + n) (map test (tuples_from table (row + a) b))) long
+    ∙ ap (λ n. true_places row (map test ts) ++ true_places n (map test (tuples_from table n b))) is
+
+pub places-none : (test : Option TupleValue → Bool) (table : List Row) (row : ℕ) →
+    true_places row (map test (tuples_from table row 0)) ≡ []
+unfolding true_places tuples_from
+places-none test table row = refl

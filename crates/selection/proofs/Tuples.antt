@@ -147,3 +147,23 @@ sum-block f table n =
     ∙ ap (sum_by f) (from-add table 0 (126976 * n) 126976)
     ∙ sum_by-append f (tuples_from table 0 (126976 * n)) (tuples_from table (0 + 126976 * n) 126976)
     ∙ ap (λ k. sum_by f (tuples_from table 0 (126976 * n)) + sum_by f (tuples_from table k 126976)) next
+
+-- no fewer pass of more rows
+pub count-within : (test : Option TupleValue → Bool) (table : List Row) (row a b : ℕ) → a ≤ b →
+    count_by test (tuples_from table row a) ≤ count_by test (tuples_from table row b)
+count-within test table row a b less =
+    let more : b ≡ a + (b - a) = omega (arith, less) in
+    let both = ap (λ n. count_by test (tuples_from table row n)) more
+    ∙ ap (count_by test) (from-add table row a (b - a))
+    ∙ sum_by-append (λ t. cond (test t) 1 0) (tuples_from table row a) (tuples_from table (row + a) (b - a)) in
+    omega (arith, both)
+
+-- no more pass than of all rows
+pub count-total : (test : Option TupleValue → Bool) (table : List Row) (n : ℕ) → test None ≡ false →
+    count_by test (tuples_from table 0 n) ≤ count_by (λ r. test r.1) table
+count-total test table n none =
+    omega (
+      arith,
+      count-within test table 0 n (n + length table) (omega arith),
+      sum-all (λ t. cond (test t) 1 0) table (n + length table) (ap (λ b. cond b 1 0) none) (omega arith),
+    )

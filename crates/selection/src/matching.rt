@@ -102,6 +102,7 @@ impl<'t, S: VersionStore> Scan<'t, S> {
         ensures reads { reads.new ≤ reads.old + count_by (is_part_at self.now.predicate)
             (tuples_from (table_at S.Log.terms self.now.taken) (3_968 * block.now.first) 126_976) }
     {
+        rows_of_groups();
         for k in 0..BLOCK_PAGES {
             let page = self.matching(block, k, places, reads);
             let len = true_places(&page, places);
