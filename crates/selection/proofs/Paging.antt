@@ -1,25 +1,28 @@
 -- The rows of a page's groups, by their places and their tuples.
-use Rattle.std.proofs.Common.{◌≡◌, ℕ, zero, suc, ◌+◌, ◌*◌, ◌/◌, ◌%◌, ◌^◌, ◌<◌, ◌≤◌, ◌∙◌, ◌&&◌, not, Bool, true, false, List, [], ◌∷◌, ◌++◌, length, map, take, get_or, All, Option, Some, None, refl, sym, ap, subst, arith, filter, count_by, length-append}
-use Rattle.std.proofs.lemmas.Bool.{and_right}
-use Rattle.std.proofs.lemmas.List.{ext_get_or, get_or-map, length-map}
+use Rattle.std.proofs.Common.{◌≡◌, ℕ, zero, suc, ◌+◌, ◌*◌, ◌/◌, ◌%◌, ◌^◌, ◌<◌, ◌≤◌, ◌∙◌, ◌&&◌, not, Bool, true, false, List, [], ◌∷◌, ◌++◌, length, map, take, get_or, All, Option, Some, None, refl, sym, ap, subst, arith, cond, filter, sum_by, count_by, length-append}
+use Rattle.std.proofs.lemmas.Bool.{and_right, cond-false, false_from_ne_true, true≢false}
+use Rattle.std.proofs.lemmas.List.{ext_get_or, get_or_default, get_or-map, length-map}
+use Rattle.std.proofs.lemmas.List.Elements.{filter_passes}
 use Rattle.std.proofs.lemmas.List.Sums.{length-filter}
 use Rattle.cubit_base.specs.Predicate.{matches}
 use Rattle.cubit_base.specs.Table.{Row}
-use Rattle.cubit_base.specs.Tuple.{TupleValue, IsTuple}
+use Rattle.cubit_base.specs.Tuple.{TupleValue, IsTuple, amount_of}
 use Rattle.cubit_base.specs.LiveRow.{tuple_at}
 use Rattle.cubit_base.specs.declared.predicate.Predicate.{Predicate}
 use Rattle.cubit_base.specs.declared.predicate.Range.{Range}
+use Rattle.cubit_base.specs.declared.table.Totals.{Totals}
 use Rattle.column_bins.specs.Plan.{has_part, is_candidate, is_in_part, is_part_of}
 use Rattle.unit_version.specs.Content.{tuples_from}
 use Rattle.wah_words.specs.Group.{group_row, low_bits, group_rows, unpacked}
 use Rattle.wah_words.specs.Rows.{has, true_count, true_places}
 use Rattle.front_patch.specs.Bits.{row_in}
 use Rattle.selection.specs.Blocks.{Tells}
-use Rattle.selection.specs.Candidates.{is_candidate_at, is_cut_at, is_match_at, is_part_at}
+use Rattle.selection.specs.Candidates.{amount_at, is_candidate_at, is_cut_at, is_match_at, is_part_at}
+use Rattle.selection.specs.Pages.{AddsUp}
 use Rattle.selection.specs.Scan.{HasTuples}
 use Rattle.selection.proofs.Parts.{none-part}
 use Rattle.selection.proofs.Places.{places-below, places-has, places-tuples}
-use Rattle.selection.proofs.Tuples.{count-map, from-at, from-length}
+use Rattle.selection.proofs.Tuples.{count-map, from-at, from-length, sum-filter}
 
 -- ---- unpacked groups
 
@@ -186,3 +189,61 @@ pub page-true : (test : Option TupleValue → Bool) (table : List Row) (page : �
 page-true test table page groups law long tells =
     ap true_count (unpacked-tells test table page 3968 groups law (omega (arith, long)) tells)
     ∙ count-map test (tuples_from table (3968 * page) 3968)
+
+-- ---- what a page's candidates add up to
+
+pub page-passes : (test : Option TupleValue → Bool) (table : List Row) (page : ℕ) →
+    All (λ place. test (tuple_at table (3968 * page + place)) ≡ true) (page_places test table page)
+page-passes test table page k d within =
+    let f : ℕ → Option TupleValue = λ place. tuple_at table (3968 * page + place) in
+    let ps = page_places test table page in
+    let all = subst (λ (ts : List (Option TupleValue)). All (λ t. test t ≡ true) ts) (sym (page-tuples test table page))
+    (filter_passes test (tuples_from table (3968 * page) 3968)) in
+    ap test (sym (get_or-map f ps k d (f d) within)) ∙ all k (f d) (omega (arith, within, length-map ps f))
+
+map-same : {X Y : Type 0} (f g : X → Y) (P : X → Type 0) (xs : List X) → ((x : X) → P x → f x ≡ g x) → All P xs →
+    map f xs ≡ map g xs
+map-same f g P [] same all = refl
+map-same f g P (x ∷ xs) same all =
+    ap (λ y. y ∷ map f xs) (same x (all 0 x (omega arith)))
+    ∙ ap (λ ys. g x ∷ ys) (map-same f g P xs same (λ k d within. all (suc k) d (omega (arith, within))))
+
+-- each of a page's tuples is within its ranges
+fits-at : (table : List Row) (row n : ℕ) → HasTuples table →
+    All (λ tuple. (t : TupleValue) → tuple ≡ Some t → IsTuple t) (tuples_from table row n)
+fits-at table row n fits k d within t is =
+    fits (row + k) t (sym (from-at table row n k (omega (arith, within, from-length table row n)))
+    ∙ get_or_default (tuples_from table row n) k None d within ∙ is)
+
+no-match : (p : Predicate) (tuple : Option TupleValue) → CandidateLaws →
+    ((t : TupleValue) → tuple ≡ Some t → IsTuple t) → is_candidate_at p tuple ≡ false → is_match_at p tuple ≡ false
+no-match p None laws fits none = refl
+no-match p (Some t) laws fits none =
+    false_from_ne_true (matches p t) (λ is. true≢false (sym (laws.all p t (fits t refl) is) ∙ none))
+
+no-amount : (p : Predicate) (tuple : Option TupleValue) → is_match_at p tuple ≡ false → amount_at p tuple ≡ 0
+no-amount p None none = refl
+no-amount p (Some t) none = cond-false (matches p t) (amount_of t) 0 none
+
+pub page-adds : (p : Predicate) (table : List Row) (page : ℕ) (here : ℕ → Option TupleValue) (places : List ℕ)
+    (before now : Totals) → CandidateLaws → HasTuples table →
+    ((at : ℕ) → at < 3968 → here at ≡ tuple_at table (3968 * page + at)) →
+    places ≡ page_places (is_candidate_at p) table page → AddsUp p (map here places) before now →
+    AddsUp p (tuples_from table (3968 * page) 3968) before now
+page-adds p table page here places before now laws fits tuples are adds =
+    let ts = tuples_from table (3968 * page) 3968 in
+    let candidate = is_candidate_at p in
+    let same : map here places ≡ filter candidate ts =
+    ap (map here) are
+    ∙ map-same here (λ at. tuple_at table (3968 * page + at)) (λ at. at < 3968) (page_places candidate table page) tuples
+    (page-below candidate table page)
+    ∙ page-tuples candidate table page in
+    let fit = fits-at table (3968 * page) 3968 fits in
+    record {
+      count = adds.count ∙ ap (λ n. before.count + n) (ap (count_by (is_match_at p)) same
+          ∙ sum-filter (λ t. cond (is_match_at p t) 1 0) candidate ts (λ k d within none.
+          cond-false (is_match_at p (get_or ts k d)) 1 0 (no-match p (get_or ts k d) laws (fit k d within) none)));
+      sum = adds.sum ∙ ap (λ n. before.sum + n) (ap (sum_by (amount_at p)) same
+          ∙ sum-filter (amount_at p) candidate ts (λ k d within none.
+          no-amount p (get_or ts k d) (no-match p (get_or ts k d) laws (fit k d within) none)));
+    }

@@ -11,10 +11,12 @@ use crate::block::{BLOCK_PAGES, BLOCK_ROWS, PAGE_LENGTH};
 use crate::groups::page_of;
 use crate::page_rows::add_up;
 use crate::scan::Scan;
+use column_bins::laws;
 use cubit_base::{Steps, Totals};
 use fence_window::{BLOCK_GROUPS, PAGE_GROUPS};
 use std::sync::ledger::Ledger;
 use version_store::VersionStore;
+use wah_words::laws::rows_of_groups;
 use wah_words::true_places;
 
 impl<'t, S: VersionStore> Scan<'t, S> {
@@ -84,6 +86,8 @@ impl<'t, S: VersionStore> Scan<'t, S> {
         ensures reads { reads.new ≡ reads.old + count_by (is_candidate_at self.now.predicate)
             (tuples_from (table_at S.Log.terms self.now.taken) (3_968 * page) 3_968) }
     {
+        rows_of_groups();
+        laws::candidates();
         let len = true_places(candidates, places);
         let tuples = self.taken.page(self.store, self.base, page);
         add_up(&tuples, &places[..len], self.predicate, self.cuts, totals, reads);
