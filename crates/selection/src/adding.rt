@@ -57,6 +57,7 @@ impl<'t, S: VersionStore> Scan<'t, S> {
         requires sum { totals.old.sum ≤ 999_999_990 * (3_968 * first) }
         ensures totals { AddsUp self.now.predicate
             (tuples_from (table_at S.Log.terms self.now.taken) (3_968 * first) 126_976) totals.old totals.new }
+        ensures low { totals.new.sum ≤ totals.old.sum + 999_999_990 * 126_976 }
         ensures reads { reads.new ≡ reads.old + count_by (is_candidate_at self.now.predicate)
             (tuples_from (table_at S.Log.terms self.now.taken) (3_968 * first) 126_976) }
     {
@@ -83,6 +84,7 @@ impl<'t, S: VersionStore> Scan<'t, S> {
         requires sum { totals.old.sum ≤ 999_999_990 * (3_968 * page) }
         ensures totals { AddsUp self.now.predicate
             (tuples_from (table_at S.Log.terms self.now.taken) (3_968 * page) 3_968) totals.old totals.new }
+        ensures low { totals.new.sum ≤ totals.old.sum + 999_999_990 * 3_968 }
         ensures reads { reads.new ≡ reads.old + count_by (is_candidate_at self.now.predicate)
             (tuples_from (table_at S.Log.terms self.now.taken) (3_968 * page) 3_968) }
     {

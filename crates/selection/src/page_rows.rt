@@ -62,6 +62,7 @@ pub(crate) fn add_up<M: Ledger>(
     requires count { totals.old.count + length places.now < 2 ^ 32 }
     requires sum { totals.old.sum + 999_999_990 * length places.now < 2 ^ 64 }
     ensures totals { AddsUp predicate.now (map (tuple_here page.now) places.now) totals.old totals.new }
+    ensures low { totals.new.sum ≤ totals.old.sum + 999_999_990 * length places.now }
     ensures reads { reads.new ≡ reads.old + length places.now }
 {
     let (mut count, mut sum) = (totals.count, totals.sum);

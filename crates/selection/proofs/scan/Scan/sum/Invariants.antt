@@ -1,0 +1,16 @@
+use Rattle.std.proofs.Common.{◌≡◌, ◌+◌, ◌*◌, ◌≤◌, count_by, sum_by}
+use Rattle.unit_version.specs.Content.{tuples_from}
+use Rattle.front_patch.specs.Taken.{table_at}
+use Rattle.selection.specs.Candidates.{is_candidate_at, is_match_at, amount_at}
+use Rattle.selection.proofs.scan.Scan.sum.Given as goal
+
+abbrev pub invariant-loop-n : goal.invariant-loop-n
+invariant-loop-n g l = record {
+  count : l.totals.count ≡ count_by (is_match_at l.self.predicate)
+      (tuples_from (table_at g.S.Log.CommitLog.terms l.self.taken) 0 (126976 * l.n));
+  sum : l.totals.sum ≡ sum_by (amount_at l.self.predicate)
+      (tuples_from (table_at g.S.Log.CommitLog.terms l.self.taken) 0 (126976 * l.n));
+  low : l.totals.sum ≤ 999_999_990 * (126976 * l.n);
+  reads : l.reads ≡ l.fn.reads + count_by (is_candidate_at l.self.predicate)
+      (tuples_from (table_at g.S.Log.CommitLog.terms l.self.taken) 0 (126976 * l.n));
+}
