@@ -118,6 +118,7 @@ takes-all terms plan tries gave shown base before looked held last store later f
       stands = stands;
       begins = omega (arith, begins-length before.seen looked.seen first-looks.begins, first-whole.whole);
       pages_are = pages-are;
+      long = holds.long;
       least = least-is;
       told = holds.told;
       asked = holds.asked;

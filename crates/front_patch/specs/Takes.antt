@@ -90,6 +90,7 @@ pub record Takes {Claim : Type 0} (terms : Terms) (plan : Plan) (tries : ℕ) (g
   pub stands : Stands terms taken.seen first
   pub begins : length handle.seen ≤ first.len
   pub pages_are : taken.pages ≡ pages_of plan first.rows
+  pub long : length taken.claims ≡ length (units_of plan taken.pages)
   pub least : taken.least ≡ least_length first.len (map (option_map shown) taken.claims)
   pub told : AreTold shown (units_of plan taken.pages) taken.claims store.told
   -- each unit was held once

@@ -11,3 +11,5 @@ mod Tuples
 mod Places
 mod Answering
 mod Paging
+mod Counting
+mod Asking

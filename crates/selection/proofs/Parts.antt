@@ -28,7 +28,7 @@ month-below (suc b) day =
     cond-below (nat_le (month_start (suc b)) day) (suc b) (month_by b day) (suc b) (omega arith)
     (omega (arith, month-below b day))
 
-month-low : (day : ℕ) → month_of day < 84
+pub month-low : (day : ℕ) → month_of day < 84
 unfolding month_of
 month-low day = omega (arith, month-below 83 day)
 

@@ -1,4 +1,5 @@
 pub mod Answered
+pub mod Asked
 pub mod Blocks
 pub mod Candidates
 pub mod Months

@@ -3,6 +3,7 @@
 
 mod adding;
 mod answer;
+mod asked;
 mod block;
 mod groups;
 mod matching;

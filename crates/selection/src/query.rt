@@ -6,12 +6,11 @@ ghost use Rattle.front_patch.specs.Takes.{SeesOnly, KeepsVersions};
 ghost use Rattle.selection.specs.Candidates.{candidate_count, part_count};
 ghost use Rattle.selection.specs.Answered.{Lists, Counts, Sums, query_steps};
 
+use crate::asked::ask;
 use crate::scan::Scan;
 use crate::{CountAnswer, RowsAnswer, SumAnswer};
-use column_bins::plan;
 use commit_log::{CommitLog, Memory};
 use cubit_base::{Predicate, Steps};
-use front_patch::take;
 use std::alloc::Global;
 use std::sync::ledger::Ledger;
 use unit_version::Base;
@@ -41,11 +40,10 @@ pub fn rows<S: VersionStore, N: Ledger, M: Ledger>(
     ensures reads { reads.new
         ≤ reads.old + part_count predicate.now (after S.Log.terms.base (S.Log.handle log.new).seen) }
 {
-    let plan = plan(predicate, false);
-    let taken = take(alloc, log, store, base, &plan, tries, steps)?;
-    let (front, patched) = (taken.front(), taken.patched());
-    let list = Scan::new(predicate, &plan, plan.pages, &taken, store, base).rows(alloc, front.rows, reads);
-    taken.close(store);
+    let asked = ask(alloc, log, store, base, predicate, false, tries, steps)?;
+    let (front, patched) = (asked.taken.front(), asked.taken.patched());
+    let list = Scan::new(predicate, &asked, store, base).rows(alloc, front.rows, reads);
+    asked.close(store);
     Ok(RowsAnswer {
         list: list?,
         front,
@@ -77,11 +75,10 @@ pub fn count<S: VersionStore, N: Ledger, M: Ledger>(
     ensures reads { reads.new
         ≤ reads.old + part_count predicate.now (after S.Log.terms.base (S.Log.handle log.new).seen) }
 {
-    let plan = plan(predicate, false);
-    let taken = take(alloc, log, store, base, &plan, tries, steps)?;
-    let (front, patched) = (taken.front(), taken.patched());
-    let count = Scan::new(predicate, &plan, plan.pages, &taken, store, base).count(front.rows, reads);
-    taken.close(store);
+    let asked = ask(alloc, log, store, base, predicate, false, tries, steps)?;
+    let (front, patched) = (asked.taken.front(), asked.taken.patched());
+    let count = Scan::new(predicate, &asked, store, base).count(front.rows, reads);
+    asked.close(store);
     Ok(CountAnswer {
         count,
         front,
@@ -114,12 +111,10 @@ pub fn sum<S: VersionStore, N: Ledger, M: Ledger>(
     ensures reads { reads.new
         ≤ reads.old + candidate_count predicate.now (after S.Log.terms.base (S.Log.handle log.new).seen) }
 {
-    let plan = plan(predicate, true);
-    let taken = take(alloc, log, store, base, &plan, tries, steps)?;
-    let (front, patched) = (taken.front(), taken.patched());
-    let cuts = column_bins::plan(predicate, false).pages;
-    let totals = Scan::new(predicate, &plan, cuts, &taken, store, base).sum(front.rows, reads);
-    taken.close(store);
+    let asked = ask(alloc, log, store, base, predicate, true, tries, steps)?;
+    let (front, patched) = (asked.taken.front(), asked.taken.patched());
+    let totals = Scan::new(predicate, &asked, store, base).sum(front.rows, reads);
+    asked.close(store);
     Ok(SumAnswer {
         sum: totals.sum,
         count: totals.count,

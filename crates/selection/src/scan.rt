@@ -11,6 +11,7 @@ ghost use Rattle.selection.specs.Blocks.{Tells, IsBlock};
 ghost use Rattle.selection.specs.Candidates.{is_candidate_at, is_cut_at};
 ghost use Rattle.selection.specs.Scan.{HasTuples, IsScan, begins_at, has_bin_at, admits_at};
 
+use crate::asked::Asked;
 use crate::block::Block;
 use crate::groups::{is_empty, join, keep, put_page, set_all};
 use crate::months::cut_months;
@@ -47,26 +48,24 @@ impl<'t, S: VersionStore> Model for Scan<'t, S> {
 }
 
 impl<'t, S: VersionStore> Scan<'t, S> {
-    /// Of what was taken for a predicate's plan; `cuts` says whether the predicate meets some month in part.
+    /// Of what was taken for a predicate.
     pub(crate) fn new(
         predicate: &'t Predicate,
-        plan: &'t Plan,
-        cuts: bool,
-        taken: &'t Taken<S>,
+        asked: &'t Asked<S>,
         store: &'t S,
         base: &'t Base,
     ) -> Scan<'t, S>
-        requires { IsScan S.Log.terms (S.gave store.now) (S.shown store.now) base.now taken.now predicate.now plan.now
-            cuts }
-        ensures { result ≡ record { predicate = predicate.now; taken = taken.now } }
+        requires { IsScan S.Log.terms (S.gave store.now) (S.shown store.now) base.now asked.now.taken predicate.now
+            asked.now.plan asked.now.cuts }
+        ensures { result ≡ record { predicate = predicate.now; taken = asked.now.taken } }
     {
         Scan {
             predicate,
-            plan,
-            taken,
+            plan: &asked.plan,
+            taken: &asked.taken,
             store,
             base,
-            cuts,
+            cuts: asked.cuts,
         }
     }
 
