@@ -7,7 +7,9 @@ use Rattle.std.proofs.lemmas.List.Sums.{sum_by-cons, sum_by-take-le}
 use Rattle.std.proofs.lemmas.Option.{slice_get_within, slice_get-get_or, get_or_from_slice_get}
 use Rattle.cubit_base.specs.Delta.{is_insert}
 use Rattle.cubit_base.specs.History.{after, rows_after, IsHistory}
+use Rattle.cubit_base.specs.Table as table
 use Rattle.cubit_base.specs.Table.{Row}
+use Rattle.cubit_base.specs.Tuple.{TupleValue, IsTuple}
 use Rattle.cubit_base.specs.declared.delta.Delta.{Delta}
 use Rattle.cubit_base.specs.declared.predicate.Predicate.{Predicate}
 use Rattle.column_bins.specs.Plan.{has_part, needs_pages}
@@ -79,6 +81,12 @@ pub whole-rows : (terms : Terms) (log : List Delta) (front : Front) → IsWhole 
     rows_after terms.base log ≡ front.rows
 whole-rows terms log front whole =
     sym (whole.stands.rows ∙ ap (rows_after terms.base) (take_all front.len log (omega (arith, whole.whole))))
+
+-- a tuple of a table whose tuples are within their ranges
+pub tuples-at : (rows : List Row) → table.HasTuples rows → HasTuples rows
+tuples-at [] all row t at = absurd cc
+tuples-at (r ∷ rows) all zero t at = subst (λ (o : Option TupleValue). IfSome o IsTuple) at (all 0 r (omega arith))
+tuples-at (r ∷ rows) all (suc row) t at = tuples-at rows (λ k d within. all (suc k) d (omega (arith, within))) row t at
 
 -- ---- all of it
 

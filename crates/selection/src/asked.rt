@@ -45,7 +45,7 @@ pub(crate) fn ask<S: VersionStore, N: Ledger>(
     ensures steps { IfOk result (λ a. steps.new
         ≤ steps.old + query_steps predicate.now sum tries a.taken.front (patched_by a.taken)) }
 {
-    //TUPLES base.has_tuples();
+    base.has_tuples();
     cubit_base::laws::rows();
     commit_log::laws::prefixes();
     front_patch::laws::units();

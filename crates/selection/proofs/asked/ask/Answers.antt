@@ -1,11 +1,18 @@
 use Rattle.std.proofs.Common.{◌≡◌, ℕ, ◌+◌, ◌*◌, ◌≤◌, ◌∙◌, List, length, sym, ap, subst, arith}
+use Rattle.std.proofs.lemmas.Nat.{mul-le}
+use Rattle.cubit_base.specs.History.{after}
+use Rattle.cubit_base.specs.Table as table
 use Rattle.cubit_base.specs.declared.delta.Delta.{Delta}
 use Rattle.commit_log.specs.Log.{IsWhole, Stands}
-use Rattle.column_bins.specs.Plan.{range_of, stretch_of, IsStretch}
+use Rattle.column_bins.specs.Plan.{range_of, stretch_of, IsStretch, unit_count}
+use Rattle.column_bins.specs.declared.plan_type.Plan.{Plan}
 use Rattle.column_bins.specs.declared.column.Column.{Column}
 use Rattle.column_bins.specs.declared.column.Column.TheVariants.{Ship, Disc, Qty, Flag, Status}
+use Rattle.front_patch.specs.Planned.{planned_count, units_of}
+use Rattle.front_patch.specs.Taken.{table_at}
+use Rattle.front_patch.specs.Takes.{pages_of}
 use Rattle.selection.specs.Answered.{IsPlanOf}
-use Rattle.selection.proofs.Asking.{asked-all, rows-rise}
+use Rattle.selection.proofs.Asking.{asked-all, rows-rise, tuples-at}
 use Rattle.selection.proofs.Counting.{plan-fits, planned-few}
 use Rattle.selection.proofs.asked.ask.Given.{Over}
 use Rattle.selection.proofs.asked.ask.Goals.{After-plan-plan}
@@ -39,7 +46,10 @@ returns-clause-asked g c =
     (g.S.Log.CommitLog.handle c.args.log.now) (g.S.VersionStore.store c.args.store.now)
     (g.S.Log.CommitLog.handle c.take.new.log) (g.S.VersionStore.store c.take.new.store) c.plan-plan.result taken
     (plan-is g (goal.at.returns-clause-asked g c).After-plan-plan) c.plan-cuts.ensures.pages takes
-    ?
+    (tuples-at (table_at terms taken)
+    (subst (λ (log : List Delta). table.HasTuples (after terms.base log)) (sym takes.seen)
+    (c.rows.ensures.tuples terms.base (g.S.Log.CommitLog.handle c.take.new.log).seen
+    (subst table.HasTuples c.requires.standing.table_is c.has_tuples.ensures) c.start.ensures.log.tuples)))
     (omega (
       arith,
       c.prefixes.ensures.rows terms (g.S.Log.CommitLog.handle c.take.new.log).seen taken.front c.start.ensures.log
@@ -59,4 +69,15 @@ returns-clause-steps g c =
     let rise = rows-rise terms seen takes.first taken.front c.rows.ensures.count log
     (c.prefixes.ensures.log terms seen takes.first.len log) stands whole in
     let few = planned-few c.args.predicate.now c.args.sum c.plan-plan.result takes.first.rows taken.front.rows
-    (plan-is g (goal.at.returns-clause-steps g c).After-plan-plan) rise in ?
+    (plan-is g (goal.at.returns-clause-steps g c).After-plan-plan) rise in
+    let units : length (units_of taken.plan taken.pages)
+    ≡ planned_count c.plan-plan.result (pages_of c.plan-plan.result takes.first.rows) =
+    c.units.ensures.count taken.plan taken.pages
+    ∙ ap (λ (plan : Plan). planned_count plan taken.pages) takes.plan_is
+    ∙ ap (planned_count c.plan-plan.result) takes.pages_are in
+    omega (
+      arith,
+      c.in_ok-taken.ensures.steps,
+      mul-le (2 * c.args.tries + 8) (length (units_of taken.plan taken.pages)) (2 * c.args.tries + 8)
+          (unit_count c.args.predicate.now c.args.sum taken.front.rows) (omega arith) (omega (arith, units, few)),
+    )
