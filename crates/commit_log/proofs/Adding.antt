@@ -1,9 +1,11 @@
 -- One more delta of a log of one caller.
-use Rattle.std.proofs.Common.{◌≡◌, ℕ, ◌+◌, ◌<◌, List, [], ◌∷◌, ◌++◌, length, take, slice_get, Some, sym, refl, ap, ◌∙◌, subst, arith, length-append}
+use Rattle.std.proofs.Common.{◌≡◌, ℕ, ◌+◌, ◌<◌, List, [], ◌∷◌, ◌++◌, length, take, slice_get, All, Some, IfSome, sym, refl, ap, ◌∙◌, subst, arith, length-append}
 use mathlib.Core.Logic.{dite}
 use native.Mathlib.Decide.{dec_lt}
 use Rattle.std.proofs.lemmas.List.{map-append, length-map, take-append-le, take_all, get_or_append_left, get_or_at}
 use Rattle.std.proofs.lemmas.Option.{slice_get_within, slice_get-get_or, get_or_from_slice_get}
+use Rattle.std.proofs.lemmas.List.Elements.{All-append, All-cons, All-nil}
+use Rattle.cubit_base.specs.Tuple.{IsTuple}
 use Rattle.cubit_base.specs.declared.delta.Delta.{Delta}
 use Rattle.cubit_base.specs.declared.entry.Limits.{Limits}
 use Rattle.cubit_base.specs.History.{IsHistory, rows_after}
@@ -26,7 +28,7 @@ module _ (terms : Terms) (entries : List StoredDelta) (orders : List ℕ) (first
     (s : IsSerial terms entries orders first now limits) (d : Delta) (rows : ℕ) (by : d.author ≡ 0)
     (room : length (deltas_of entries) < terms.limits.log_limit)
     (history : IsHistory terms.limits.row_limit terms.base (deltas_of entries ++ d ∷ []))
-    (rows_now : rows ≡ rows_after terms.base (deltas_of entries ++ d ∷ [])) where
+    (rows_now : rows ≡ rows_after terms.base (deltas_of entries ++ d ∷ [])) (tuple : IfSome d.after IsTuple) where
   abbrev pub e : StoredDelta
   e = stored_of d rows
 
@@ -62,6 +64,8 @@ module _ (terms : Terms) (entries : List StoredDelta) (orders : List ℕ) (first
     log = subst (IsLog terms) (sym longer) (let m = one_more in record {
       limits_fit = s.log.limits_fit;
       history = history;
+      tuples = All-append (λ (x : Delta). IfSome x.after IsTuple) (deltas_of entries) (d ∷ []) s.log.tuples
+          (All-cons (λ (x : Delta). IfSome x.after IsTuple) d [] tuple (All-nil (λ (x : Delta). IfSome x.after IsTuple)));
       within = omega arith;
     });
     rows = λ place x at.

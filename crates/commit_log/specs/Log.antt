@@ -3,7 +3,7 @@ use Rattle.std.specs.Prelude.{◌≡◌, ◌≢◌, ℕ, ◌+◌, ◌-◌, ◌�
 use Rattle.cubit_base.specs.Key.{KeyValue}
 use Rattle.cubit_base.specs.Table.{Row}
 use Rattle.cubit_base.specs.Delta.{IsLawful}
-use Rattle.cubit_base.specs.History.{after, IsHistory, LimitsFit, rows_after}
+use Rattle.cubit_base.specs.History.{after, IsHistory, LeavesTuples, LimitsFit, rows_after}
 use Rattle.cubit_base.specs.declared.delta.Delta.{Delta}
 use Rattle.cubit_base.specs.declared.entry.Entry.{Entry}
 use Rattle.cubit_base.specs.declared.entry.Limits.{Limits}
@@ -20,6 +20,7 @@ pub record Terms : Type 0 where
 pub record IsLog (terms : Terms) (log : List Delta) : Type 0 where
   pub limits_fit : LimitsFit terms.limits.row_limit terms.limits.log_limit terms.base
   pub history : IsHistory terms.limits.row_limit terms.base log
+  pub tuples : LeavesTuples log
   pub within : length log ≤ terms.limits.log_limit
 
 -- the front is that of one of the log's prefixes

@@ -1,5 +1,6 @@
 //! Deltas in memory, at 48 bytes each.
-ghost use Rattle.std.specs.Prelude.{◌≡◌, ◌↔◌, IsTrue};
+ghost use Rattle.std.specs.Prelude.{◌≡◌, ◌↔◌, IsTrue, IfSome};
+ghost use Rattle.cubit_base.specs.Tuple.{IsTuple};
 ghost use Rattle.commit_log.specs.StoredDelta.{delta_of, stored_of};
 
 use cubit_base::{Delta, Entry, Key, Tuple};
@@ -20,7 +21,8 @@ const _: () = prove!(size_of::<StoredDelta>() == 48);
 impl StoredDelta {
     /// The author is left out.
     pub(crate) fn new(delta: &Delta, rows: u32) -> StoredDelta
-        ensures { result ≡ stored_of delta.now rows }
+        ensures value { result ≡ stored_of delta.now rows }
+        ensures tuple { IfSome delta.now.after IsTuple }
     {
         StoredDelta {
             before: delta.before,

@@ -6,3 +6,4 @@ pub mod LiveRows
 pub mod LiveHistories
 pub mod Outcomes
 pub mod Words
+mod Ranges

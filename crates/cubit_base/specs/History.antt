@@ -1,8 +1,8 @@
 -- Histories, which are lists of deltas in order. The front of n deltas of a history is `take n history`.
-use Rattle.std.specs.Prelude.{ℕ, ◌≤◌, ◌==◌, Bool, List, [], ◌∷◌, length, fold, Option, Some, None, if◌then◌else◌}
+use Rattle.std.specs.Prelude.{ℕ, ◌≤◌, ◌==◌, Bool, List, [], ◌∷◌, length, fold, All, Option, Some, None, IfSome, if◌then◌else◌}
 use Rattle.std.specs.Option.{option_map}
 use Rattle.cubit_base.specs.Key.{KeyValue, same_key}
-use Rattle.cubit_base.specs.Tuple.{TupleValue}
+use Rattle.cubit_base.specs.Tuple.{TupleValue, IsTuple}
 use Rattle.cubit_base.specs.Table.{Row}
 use Rattle.cubit_base.specs.Delta.{applied, IsLawful}
 use Rattle.cubit_base.specs.declared.delta.Delta.{Delta}
@@ -19,6 +19,10 @@ rows_after table history = length (after table history)
 abbrev pub IsHistory : ℕ → List Row → List Delta → Type 0
 IsHistory limit table [] = Unit {0}
 IsHistory limit table (d ∷ history) = IsLawful limit table d × IsHistory limit (applied table d) history
+
+-- each tuple that a history leaves is within the accepted ranges
+abbrev pub LeavesTuples : List Delta → Type 0
+LeavesTuples history = All (λ d. IfSome d.after IsTuple) history
 
 -- the limits on rows and on deltas fit a base table
 pub record LimitsFit (row_limit log_limit : ℕ) (base : List Row) : Type 0 where

@@ -4,10 +4,10 @@ ghost use Rattle.std.specs.Prelude.{◌≡◌, ◌≢◌, ◌↔◌, ℕ, ◌+�
 ghost use Rattle.cubit_base.specs.Key.{KeyValue};
 ghost use Rattle.cubit_base.specs.Tuple.{TupleValue, IsTuple};
 ghost use Rattle.cubit_base.specs.Word.{tuple_word};
-ghost use Rattle.cubit_base.specs.Table.{Row, HasDistinctKeys};
+ghost use Rattle.cubit_base.specs.Table.{Row, HasDistinctKeys, HasTuples};
 ghost use Rattle.cubit_base.specs.LiveRow.{tuple_at, IsFree, HasDistinctLiveKeys, live_row};
 ghost use Rattle.cubit_base.specs.Delta.{applied, IsLawful, is_insert};
-ghost use Rattle.cubit_base.specs.History.{after, rows_after, IsHistory, is_of_row, is_of_key, last_delta, row_by_last, live_row_by_last};
+ghost use Rattle.cubit_base.specs.History.{after, rows_after, IsHistory, LeavesTuples, is_of_row, is_of_key, last_delta, row_by_last, live_row_by_last};
 ghost use Rattle.cubit_base.specs.Change.{Change, Placed, outcome, key_of};
 ghost use Rattle.cubit_base.specs.declared.delta.Delta.{Delta};
 
@@ -66,6 +66,10 @@ pub fn rows()
         rows_after table h ≡ length table + count_by is_insert h }
     ensures within { (limit : ℕ) (table : List Row) (h : List Delta) → IsHistory limit table h →
         length table ≤ limit → rows_after table h ≤ limit }
+
+    // All tuples are within the accepted ranges.
+    ensures tuples { (table : List Row) (h : List Delta) → HasTuples table → LeavesTuples h →
+        HasTuples (after table h) }
 
     // A row keeps its key for good.
     ensures key { (table : List Row) (h : List Delta) (n : ℕ) (key : KeyValue) (held : Option TupleValue) →

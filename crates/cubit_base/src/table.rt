@@ -1,6 +1,8 @@
 //! A table in memory, at 16 bytes a row.
-ghost use Rattle.std.specs.Prelude.{◌≡◌, ◌<◌, ◌≤◌, [], ◌∷◌, ◌++◌, length, slice_get, IsTrue, ◌↔◌, IfOk, OnOk, OnErr};
+ghost use Rattle.std.specs.Prelude.{◌≡◌, ◌<◌, ◌≤◌, [], ◌∷◌, ◌++◌, length, slice_get, IsTrue, ◌↔◌, IfOk, IfSome, OnOk, OnErr};
 ghost use Rattle.cubit_base.specs.Answer.{answer};
+ghost use Rattle.cubit_base.specs.Table.{HasTuples};
+ghost use Rattle.cubit_base.specs.Tuple.{IsTuple};
 ghost use Rattle.cubit_base.specs.declared.table.TheConstants.{ROW_LIMIT};
 
 use crate::{Flag, Key, LineStatus, Memory, Predicate, Tuple};
@@ -37,7 +39,8 @@ impl Model for StoredRow {
 
 impl StoredRow {
     fn new(key: Key, tuple: Option<Tuple>) -> StoredRow
-        ensures { result ≡ (key, tuple) }
+        ensures value { result ≡ (key, tuple) }
+        ensures within { IfSome tuple IsTuple }
     {
         match tuple {
             Some(t) => StoredRow {
@@ -101,14 +104,14 @@ pub struct Table {
 
 impl Model for Table {
     ghost use Rattle.std.specs.Prelude.{List, length, ◌≤◌};
-    ghost use Rattle.cubit_base.specs.Table.{Row};
+    ghost use Rattle.cubit_base.specs.Table.{Row, HasTuples};
     ghost use Rattle.cubit_base.specs.declared.table.TheConstants.{ROW_LIMIT};
 
     ghost Value = { List Row };
 
     ghost view = { λ t. t.rows.items };
 
-    ghost invariant = { λ t. length t.rows.items ≤ ROW_LIMIT };
+    ghost invariant = { λ t. (length t.rows.items ≤ ROW_LIMIT) × HasTuples t.rows.items };
 }
 
 /// What a query adds up over the rows that match.
@@ -152,6 +155,13 @@ impl Table {
         ensures { IsTrue result ↔ (self.now ≡ []) }
     {
         self.rows.is_empty()
+    }
+
+    /// Each tuple is within the accepted ranges. This does nothing: where it is called, that is known.
+    pub fn has_tuples(&self)
+        ensures { HasTuples self.now }
+    {
+        let _rows = &self.rows;
     }
 
     /// Puts a row at the end.

@@ -1,6 +1,7 @@
 //! All units over the base table.
 ghost use Rattle.std.specs.Prelude.{◌≡◌, ◌↔◌, ◌≤◌, length, map, IfOk, IfSome, IsSome, IsTrue};
 ghost use Rattle.cubit_base.specs.LiveRow.{HasDistinctLiveKeys};
+ghost use Rattle.cubit_base.specs.Table.{HasTuples};
 ghost use Rattle.cubit_base.specs.declared.table.TheConstants.{ROW_LIMIT};
 ghost use Rattle.wah_words.specs.Place.{page_count};
 ghost use Rattle.unit_version.specs.Columns.{AreOfColumn};
@@ -60,6 +61,7 @@ impl Base {
         requires limit { row_room ≤ ROW_LIMIT }
         ensures { IfOk result (λ base. base ≡ record { table = table; row_room = row_room }) }
     {
+        table.has_tuples();
         Ok(Base {
             row_room,
             rows: table.len(),
@@ -80,6 +82,13 @@ impl Base {
     /// No two live rows of the table have one key. This does nothing: where it is called, that is known.
     pub fn keys_differ(&self)
         ensures { HasDistinctLiveKeys self.now.table }
+    {
+        let _rows = self.rows;
+    }
+
+    /// Each tuple of the table is within the accepted ranges. This does nothing: where it is called, that is known.
+    pub fn has_tuples(&self)
+        ensures { HasTuples self.now.table }
     {
         let _rows = self.rows;
     }
