@@ -10,7 +10,7 @@ ghost use Rattle.commit_log.specs.Handle.{Begins, mine, Appends, append_steps, R
 ghost use Rattle.commit_log.specs.Serial.{SerialValue, is_late, serial_terms, serial_handle};
 
 use crate::orders::last_end;
-use crate::stored::StoredDelta;
+use crate::stored::{StoredDelta, is_within};
 use crate::{AppendStop, CommitLog, Cursor, Front, Memory};
 use cubit_base::{Delta, Entry, Key, Limits, Steps, laws};
 use std::alloc::Global;
@@ -114,6 +114,7 @@ impl<S: Setup> SerialLog<S> {
         laws::histories();
         laws::deltas();
         laws::rows();
+        is_within(&delta.after);
         let rows = self.rows + rows_added(delta);
         let stored = StoredDelta::new(delta, rows);
         self.rows = rows;

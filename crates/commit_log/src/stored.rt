@@ -21,8 +21,7 @@ const _: () = prove!(size_of::<StoredDelta>() == 48);
 impl StoredDelta {
     /// The author is left out.
     pub(crate) fn new(delta: &Delta, rows: u32) -> StoredDelta
-        ensures value { result ≡ stored_of delta.now rows }
-        ensures tuple { IfSome delta.now.after IsTuple }
+        ensures { result ≡ stored_of delta.now rows }
     {
         StoredDelta {
             before: delta.before,
@@ -62,5 +61,17 @@ impl StoredDelta {
         ensures { IsTrue result ↔ (self.now.key ≡ key.now) }
     {
         self.key == *key
+    }
+}
+
+/// A tuple is within its ranges. This does nothing: where it is called, that is known.
+pub(crate) fn is_within(tuple: &Option<Tuple>)
+    ensures { IfSome tuple.now IsTuple }
+{
+    match tuple {
+        Some(tuple) => {
+            let _day = tuple.day;
+        }
+        None => {}
     }
 }

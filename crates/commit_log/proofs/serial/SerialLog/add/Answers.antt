@@ -35,7 +35,7 @@ invariant_of-self g c =
     ∙ sym (ap (λ (t : List Row). length t) (c.histories.ensures.join base h (d ∷ []))) in
     let entries : c.push_reserved-2.new.self.items ≡ v.entries.items ++ stored_of d rows ∷ [] =
     ◌∙◌ {A = List StoredDelta} c.push_reserved-2.ensures.items
-    (ap (λ (x : StoredDelta). v.entries.items ++ x ∷ []) c.new-stored.ensures.value) in
+    (ap (λ (x : StoredDelta). v.entries.items ++ x ∷ []) c.new-stored.ensures) in
     let order : c.order.result ≡ d.key.order =
     c.order.ensures ∙ ap (λ (x : StoredDelta). x.key.order) c.new-stored.ensures in
     let orders : c.push_reserved.new.self.items ≡ v.orders.items ++ d.key.order ∷ [] =
@@ -44,7 +44,7 @@ invariant_of-self g c =
     subst (λ (x : List StoredDelta × List ℕ). IsSerial terms x.0 x.1 v.base_rows rows v.limits)
     (λ i. (sym entries i, sym orders i))
     (serial-snoc terms v.entries.items v.orders.items v.base_rows v.rows v.limits s d rows c.requires.author room
-    history now c.new-stored.ensures.tuple) in
+    history now c.is_within.ensures) in
     let some = c.requires.spare in
     let spare : v.spare ≡ c.args.self.now.spare = ap (λ (x : SerialValue). x.spare) c.self.view_is in
     let r1 = c.self.invariant.1.room in
