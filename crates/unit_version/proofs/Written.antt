@@ -117,7 +117,8 @@ ArePushed-more of tile n old new part are within is =
                 rw (get_or-set_other new n k own [] other) (are.each k (omega (arith, low, other)) bins page has before)
           ];
       rest = λ k from.
-          get_or-set_other new n k own [] (λ same. absurd (omega (arith, same, from))) ∙ are.rest k (omega (arith, from));
+          get_or-set_other new n k own [] (λ same. absurd (omega (arith, same, from)))
+          ∙ are.rest k (omega (arith, from));
     }
 
 -- a page of each list
@@ -185,7 +186,8 @@ pub record IsMade (rows : ℕ) (groups : List ℕ) (list : List Bool) : Type 0 w
 
 -- the groups of all pages are those of the live rows of some bins
 pub IsMade-all : PageLaws → (column : Column) (table : List Row) (stretch : Stretch) (groups : List ℕ)
-    → stretch.after ≤ 255 → AreFirstPages (rows_in stretch (map (row_bin column) table)) (page_count (length table)) groups
+    → stretch.after ≤ 255
+    → AreFirstPages (rows_in stretch (map (row_bin column) table)) (page_count (length table)) groups
     → IsMade (length table) groups (map (is_in_bins column stretch) table)
 IsMade-all laws column table stretch groups few are =
     let bins = map (row_bin column) table in

@@ -3,28 +3,22 @@
 //!
 //! A bitvector has a truth value for each row, in the words of `wah_words`. A page has the tuples of 3,968 rows, in a
 //! word each. A key page has the live rows of the keys whose order leaves one rest by 64, in 16 bytes each and in the
-//! order of keys; contracts see them in the order of rows.
-//!
-//! Beside the units a base keeps unions of neighbouring bins in plain groups, of 4 bytes to 31 rows: 7 years, 5 pairs of
-//! discounts, 3 sixteens and 12 fours of quantities. They are derived from the bins, and are no units.
+//! order of keys; contracts see them in the order of rows. Beside these units a base keeps unions of neighbouring bins
+//! in plain groups: 7 years, 5 pairs of discounts, 3 sixteens and 12 fours of quantities, in 4 bytes for 31 rows each.
 //!
 //! # Proved
 //!
-//! Each call is safe and returns.
-//!
 //! - `Base::build`: the base is of the table and the row room that were given. `Base::content`: what a unit holds is
-//!   `content_of` it and the table, for every unit that `IsUnit` names. `Base::rows`, `pages`, `units`: how many these
-//!   are.
-//! - `Base::coarse`: there is a union exactly where `is_kept` says so (`kept`), and then it is the list of the rows that
-//!   are live and whose bin is one of those (`list`).
-//! - `key_pages`: the key pages of a table alone, as `build` makes them.
+//!   `content_of` it and the table, for every unit of `IsUnit`. `Base::rows`, `pages`, `units`: how many these are.
+//! - `Base::coarse`: a union is there exactly where `is_kept` says so (`kept`), and is the list of the rows that are
+//!   live and have one of its bins (`list`). `key_pages`: the key pages of a table alone, as `build` makes them.
 //! - `Page::get`: the tuple at the place, or none where the row is not live and past the last row (`value`), and one
 //!   read more whatever it answers (`reads`). No other public call gives a page's tuples.
 //! - `Keys::find`: the row and the tuple of the live row with the key, or none exactly where no live row of the page
 //!   has it, as also for a key of another page.
 //! - `laws::keys`: what the page of a key finds is the table's live row with it. `laws::tuples`: the tuples of a page,
 //!   one by one.
-//! - No call but `build` and `key_pages` takes memory.
+//! - Each call is safe and returns, and none but `build` and `key_pages` takes memory.
 //!
 //! # Only tested
 //!
@@ -34,7 +28,6 @@
 //!
 //! - Time: no clause says how many places a find looks at, or that it guesses well.
 //! - When there is no memory: `build` lets the table go then.
-//! - Room: bins are made in room for a word for each 31 rows, which they keep; how few words they have is not said.
 //!
 //! # Example
 //!
