@@ -10,20 +10,20 @@ use Rattle.unit_version.specs.Content.{content_of, is_in_bins, AreContents}
 use Rattle.unit_version.specs.Union.{union_at, AreUnions}
 
 -- what stands in a list with one more at its end
-pub slice_get-before : {X : Type 0} (xs : List X) (y : X) (k : ℕ) → k < length xs
+slice_get-before : {X : Type 0} (xs : List X) (y : X) (k : ℕ) → k < length xs
     → slice_get (xs ++ y ∷ []) k ≡ slice_get xs k
 slice_get-before [] y k within = absurd (omega arith)
 slice_get-before (x ∷ xs) y zero within = refl
 slice_get-before (x ∷ xs) y (suc k) within = slice_get-before xs y k (omega arith)
 
-pub slice_get-last : {X : Type 0} (xs : List X) (y : X) → slice_get (xs ++ y ∷ []) (length xs) ≡ Some y
+slice_get-last : {X : Type 0} (xs : List X) (y : X) → slice_get (xs ++ y ∷ []) (length xs) ≡ Some y
 slice_get-last [] y = refl
 slice_get-last (x ∷ xs) y = slice_get-last xs y
 
 -- one that is told for each place, with one more
 pub each-more : {X : Type 0} (of : ℕ → X) (n : ℕ) (xs : List X) → length xs ≡ n
-    → ((k : ℕ) → k < n → slice_get xs k ≡ Some (of k)) → (k : ℕ) → k < n + 1 → slice_get (xs ++ of n ∷ []) k
-    ≡ Some (of k)
+    → ((k : ℕ) → k < n → slice_get xs k ≡ Some (of k)) → (k : ℕ) → k < n + 1
+    → slice_get (xs ++ of n ∷ []) k ≡ Some (of k)
 each-more of n xs long each k low = elim (cases_eq k n) [
   | inl last ↦ rw (last, ← long) (slice_get-last xs (of (length xs)))
   | inr earlier ↦ slice_get-before xs (of n) k (omega (arith, long)) ∙ each k (omega arith)

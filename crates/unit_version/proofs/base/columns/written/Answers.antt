@@ -25,8 +25,8 @@ pub push_page-requires-clause-within : goal.push_page-requires-clause-within
 push_page-requires-clause-within c =
     let table = c.args.table.now in
     let page = c.loop-page.page in
-    let has = subst (HasPage (map (row_bin Status) table) page) (sym c.deref.ensures.value)
-    c.in_ok-write_page-5.ensures.1 in
+    let has =
+    subst (HasPage (map (row_bin Status) table) page) (sym c.deref.ensures.value) c.in_ok-write_page-5.ensures.1 in
     IsPageOf-within c.groups.ensures.within (live_rows table) page c.union_page.result
     (c.union_page.ensures (map (row_bin Status) table) page has)
 
@@ -43,8 +43,8 @@ pub loop-page-preserved : goal.loop-page-preserved
 loop-page-preserved c =
     let table = c.args.table.now in
     let page = c.loop-page.page in
-    let has = subst (HasPage (map (row_bin Status) table) page) (sym c.deref.ensures.value)
-    c.in_ok-write_page-5.ensures.1 in
+    let has =
+    subst (HasPage (map (row_bin Status) table) page) (sym c.deref.ensures.value) c.in_ok-write_page-5.ensures.1 in
     record {
       live_has = rw c.in_ok-push_page.ensures.ok (AreFirstPages-more (live_rows table) page c.loop-page.live
           c.union_page.result c.loop-page.invariant.live_has
