@@ -18,7 +18,8 @@ rising-tail x xs up k within =
     rw next at above
 
 -- the first number is below the others
-pub rising-first : (x : ℕ) (xs : List ℕ) → IsStrictlyIncreasing (x ∷ xs) → (j : ℕ) → j < length xs → x < slice_index xs j
+pub rising-first : (x : ℕ) (xs : List ℕ) → IsStrictlyIncreasing (x ∷ xs) → (j : ℕ) → j < length xs
+    → x < slice_index xs j
 rising-first x [] up j within = absurd (omega arith)
 rising-first x (y ∷ xs) up zero within = up 0 (omega arith)
 rising-first x (y ∷ xs) up (suc j) within =

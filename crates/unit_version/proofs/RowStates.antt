@@ -33,7 +33,8 @@ pub record IsKept (table then : List Row) (changes : List RowChange) (n : ℕ) :
   pub found : change_of_row n changes ≡ None
   pub same : tuple_at then n ≡ tuple_at table n
 
-pub mapped : {X Y : Type 0} (f : X → Y) (o : Option X) (y : Y) → Some y ≡ option_map f o → (x : X) × (o ≡ Some x) × (y ≡ f x)
+pub mapped : {X Y : Type 0} (f : X → Y) (o : Option X) (y : Y) → Some y ≡ option_map f o
+    → (x : X) × (o ≡ Some x) × (y ≡ f x)
 mapped f None y is = absurd cc
 mapped f (Some x) y is = (x, refl, same_Some y (f x) is)
 
