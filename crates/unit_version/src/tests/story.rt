@@ -192,6 +192,40 @@ fn all_follow<N: Ledger, R: Abort + AllocGlobal>(
     Ok(())
 }
 
+// The unit is carried on from one stretch to the next.
+fn goes_on<N: Ledger, R: Abort + AllocGlobal>(
+    rt: &R,
+    unit: Unit,
+    base: &Base,
+    first: &DeltaList,
+    between: &Base,
+    second: &DeltaList,
+    then: &Base,
+    rows: &Rows,
+    reads: &mut Steps<N>,
+) -> Result<(), Memory>
+    requires unit { IsUnit (page_count base.now.row_room) unit }
+    requires some { IsSomeUnit unit }
+    requires room { then.now.row_room ≡ base.now.row_room }
+    requires lawful { IsHistory 16_777_216 base.now.table first.now }
+    requires middle { between.now.table ≡ after base.now.table first.now }
+    requires on { IsHistory 16_777_216 between.now.table second.now }
+    requires end { then.now.table ≡ after between.now.table second.now }
+{
+    laws::histories();
+    let made = carried(
+        rt.alloc(),
+        base,
+        unit,
+        first,
+        between.rows(),
+        second,
+        then.rows(),
+    )?;
+    is_same(rt, &made, then.content(unit), rows, reads);
+    Ok(())
+}
+
 // Two stretches of a history from a table of so many rows, of which so many deltas each are drawn.
 fn story<N: Ledger, R: Abort + AllocGlobal>(
     rt: &R,
@@ -217,23 +251,50 @@ fn story<N: Ledger, R: Abort + AllocGlobal>(
     let then = Base::build(alloc, table_from(alloc, &rows)?, 16_000)?;
     let base = Base::build(alloc, table, 16_000)?;
     all_follow(rt, &base, &first, &between, &rows, reads)?;
-    for unit in [
+    goes_on(
+        rt,
         Unit::Live,
+        &base,
+        &first,
+        &between,
+        &second,
+        &then,
+        &rows,
+        reads,
+    )?;
+    goes_on(
+        rt,
         Unit::Bin(Column::Qty, 6),
+        &base,
+        &first,
+        &between,
+        &second,
+        &then,
+        &rows,
+        reads,
+    )?;
+    goes_on(
+        rt,
         Unit::Page(1),
+        &base,
+        &first,
+        &between,
+        &second,
+        &then,
+        &rows,
+        reads,
+    )?;
+    goes_on(
+        rt,
         Unit::Keys(63),
-    ] {
-        let made = carried(
-            alloc,
-            &base,
-            unit,
-            &first,
-            between.rows(),
-            &second,
-            then.rows(),
-        )?;
-        is_same(rt, &made, then.content(unit), &rows, reads);
-    }
+        &base,
+        &first,
+        &between,
+        &second,
+        &then,
+        &rows,
+        reads,
+    )?;
     Ok(())
 }
 
