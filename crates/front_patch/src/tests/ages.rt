@@ -1,5 +1,5 @@
 //! Versions of different ages at one front, against the plain table.
-ghost use Rattle.std.specs.Prelude.{◌≡◌, ◌+◌, ◌*◌, ◌<◌, ◌≤◌, ℕ, [], None, IfOk, Contains, length, take};
+ghost use Rattle.std.specs.Prelude.{◌≡◌, ◌+◌, ◌*◌, ◌<◌, ◌≤◌, ℕ, [], Some, IfOk, IfSome, Contains, length, take};
 ghost use Rattle.cubit_base.specs.History.{after};
 ghost use Rattle.cubit_base.specs.LiveRow.{HasDistinctLiveKeys};
 ghost use Rattle.column_bins.specs.Column.{bin_count};
@@ -12,7 +12,7 @@ ghost use Rattle.commit_log.specs.Serial.{serial_terms, serial_handle};
 ghost use Rattle.version_store.specs.Memory.{memory_store, AreVersions};
 ghost use Rattle.version_store.specs.Store.{IsStanding};
 ghost use Rattle.front_patch.specs.Bits.{IsBits};
-ghost use Rattle.front_patch.specs.Planned.{FitsColumns, HasBin, units_of};
+ghost use Rattle.front_patch.specs.Planned.{FitsColumns};
 ghost use Rattle.front_patch.specs.Taken.{IsTakenOver};
 
 use super::compared::agrees;
@@ -159,7 +159,10 @@ const AGES: [(Column, Stretch); 5] = [
 ];
 
 fn plan_of(ship: Option<Stretch>, disc: Option<Stretch>, qty: Option<Stretch>, pages: bool) -> Plan
-    ensures { result ≡ record { ship = ship; disc = disc; qty = qty; flag = None; status = None; pages = pages } }
+    requires ship { IfSome ship (λ s. s.after ≤ 84) }
+    requires disc { IfSome disc (λ s. s.after ≤ 11) }
+    requires qty { IfSome qty (λ s. s.after ≤ 50) }
+    ensures { FitsColumns result }
 {
     Plan {
         ship,
@@ -169,6 +172,12 @@ fn plan_of(ship: Option<Stretch>, disc: Option<Stretch>, qty: Option<Stretch>, p
         status: None,
         pages,
     }
+}
+
+fn some(first: u8, after: u8) -> Option<Stretch>
+    ensures { result ≡ Some (record { first = first; after = after }) }
+{
+    Some(Stretch { first, after })
 }
 
 // Versions of five ages, and the base's.
@@ -207,7 +216,60 @@ fn five_ages<S: Setup, N: Ledger, R: Abort + AllocGlobal>(
 }
 
 // Plans over versions of several ages, by how many deltas each is patched, against the plain table.
-fn plans_agree<S: Setup, N: Ledger, M: Ledger, R: Abort + AllocGlobal>(
+fn plans_agree<S: VersionStore, N: Ledger, M: Ledger, R: Abort + AllocGlobal>(
+    rt: &R,
+    log: &mut S::Log,
+    store: &mut S,
+    base: &Base,
+    table: &Table,
+    lengths: [u32; 6],
+    steps: &mut Steps<N>,
+    reads: &mut Steps<M>,
+) -> Result<(), Memory>
+    requires standing { IsStanding S.Log.terms (S.store store.old) base.now (S.over store.old log.old) }
+    ensures standing { IsStanding S.Log.terms (S.store store.new) base.now (S.over store.new log.new) }
+    ensures grows { Grows (S.Log.handle log.old) (S.Log.handle log.new) }
+{
+    commit_log::laws::handles();
+    let [_, second, third, fourth, _, last] = lengths;
+    assert!(rt; second < third && third < fourth && fourth < last);
+    let plan = plan_of(None, None, None, false);
+    assert_eq!(rt; agrees(rt, log, store, base, table, &plan, steps, reads)?, (last - third, 0));
+    let plan = plan_of(some(48, 54), None, None, false);
+    assert_eq!(rt; agrees(rt, log, store, base, table, &plan, steps, reads)?, (last - fourth, 0));
+    let plan = plan_of(some(48, 54), some(4, 7), some(10, 20), false);
+    assert_eq!(rt; agrees(rt, log, store, base, table, &plan, steps, reads)?, (last - second, 0));
+    let plan = plan_of(some(48, 54), some(4, 7), some(0, 50), true);
+    assert_eq!(rt; agrees(rt, log, store, base, table, &plan, steps, reads)?, (last, 0));
+    let plan = plan_of(None, None, some(3, 2), false);
+    assert_eq!(rt; agrees(rt, log, store, base, table, &plan, steps, reads)?, (0, 0));
+    let plan = plan_of(None, None, some(3, 2), true);
+    assert_eq!(rt; agrees(rt, log, store, base, table, &plan, steps, reads)?, (last, 0));
+    Ok(())
+}
+
+// The first hold is lost.
+fn lost_hold_agrees<S: Setup, N: Ledger, M: Ledger, R: Abort + AllocGlobal>(
+    rt: &R,
+    log: &mut SerialLog<S>,
+    base: &Base,
+    table: &Table,
+    last: u32,
+    steps: &mut Steps<N>,
+    reads: &mut Steps<M>,
+) -> Result<(), Memory>
+    requires limits { S.limits ≡ record { row_limit = LIMIT; log_limit = 700; tries = 1 } }
+    requires base { base.now ≡ record { table = S.base; row_room = LIMIT } }
+{
+    let lost = vec![in rt.alloc(); 1]?;
+    let mut store = LosingStore::make(rt.alloc(), base, log, lost)?;
+    let plan = plan_of(some(48, 54), some(4, 7), some(10, 20), true);
+    let told = agrees(rt, log, &mut store, base, table, &plan, steps, reads)?;
+    assert_eq!(rt; told, (last, 1));
+    Ok(())
+}
+
+fn stores_agree<S: Setup, N: Ledger, M: Ledger, R: Abort + AllocGlobal>(
     rt: &R,
     log: &mut SerialLog<S>,
     base: &Base,
@@ -222,40 +284,8 @@ fn plans_agree<S: Setup, N: Ledger, M: Ledger, R: Abort + AllocGlobal>(
 {
     let mut store = MemoryStore::make(rt.alloc(), base, log)?;
     let (table, lengths) = five_ages(rt, log, &mut store, base, table, steps)?;
-    let [_, second, third, fourth, _, last] = lengths;
-    assert!(rt; second < third && third < fourth && fourth < last);
-    let none = plan_of(None, None, None, false);
-    let tens = Some(Stretch {
-        first: 10,
-        after: 20,
-    });
-    let discounts = Some(Stretch { first: 4, after: 7 });
-    let months = Some(Stretch {
-        first: 48,
-        after: 54,
-    });
-    let all = Some(Stretch {
-        first: 0,
-        after: 50,
-    });
-    let turned = Some(Stretch { first: 3, after: 2 });
-    for (plan, patched) in [
-        (none, last - third),
-        (plan_of(months, None, None, false), last - fourth),
-        (plan_of(months, discounts, None, false), last - third),
-        (plan_of(months, discounts, tens, false), last - second),
-        (plan_of(months, discounts, all, true), last),
-        (plan_of(None, None, turned, false), 0),
-        (plan_of(None, None, turned, true), last),
-    ] {
-        let told = agrees(rt, log, &mut store, base, &table, &plan, steps, reads)?;
-        assert_eq!(rt; told, (patched, 0));
-    }
-    let mut losing = LosingStore::make(rt.alloc(), base, log, vec![in rt.alloc(); 1]?)?;
-    let plan = plan_of(months, discounts, tens, true);
-    let told = agrees(rt, log, &mut losing, base, &table, &plan, steps, reads)?;
-    assert_eq!(rt; told, (last, 1));
-    Ok(())
+    plans_agree(rt, log, &mut store, base, &table, lengths, steps, reads)?;
+    lost_hold_agrees(rt, log, base, &table, lengths[5], steps, reads)
 }
 
 fn ages<S: Setup, N: Ledger, M: Ledger, R: Abort + AllocGlobal>(
@@ -286,7 +316,7 @@ fn ages<S: Setup, N: Ledger, M: Ledger, R: Abort + AllocGlobal>(
         tries: 1,
     };
     let mut log = SerialLog::<S>::make(rt.alloc(), base.rows(), 700, limits)?;
-    plans_agree(rt, &mut log, &base, table, &mut steps, &mut reads)
+    stores_agree(rt, &mut log, &base, table, &mut steps, &mut reads)
 }
 
 #[test]
