@@ -10,13 +10,13 @@ use Rattle.unit_version.specs.Content.{content_of, is_in_bins, AreContents}
 use Rattle.unit_version.specs.Union.{union_at, AreUnions}
 
 -- what stands in a list with one more at its end
-slice_get-before : {X : Type 0} (xs : List X) (y : X) (k : ℕ) → k < length xs
+pub slice_get-before : {X : Type 0} (xs : List X) (y : X) (k : ℕ) → k < length xs
     → slice_get (xs ++ y ∷ []) k ≡ slice_get xs k
 slice_get-before [] y k within = absurd (omega arith)
 slice_get-before (x ∷ xs) y zero within = refl
 slice_get-before (x ∷ xs) y (suc k) within = slice_get-before xs y k (omega arith)
 
-slice_get-last : {X : Type 0} (xs : List X) (y : X) → slice_get (xs ++ y ∷ []) (length xs) ≡ Some y
+pub slice_get-last : {X : Type 0} (xs : List X) (y : X) → slice_get (xs ++ y ∷ []) (length xs) ≡ Some y
 slice_get-last [] y = refl
 slice_get-last (x ∷ xs) y = slice_get-last xs y
 
