@@ -1,3 +1,4 @@
+mod ColumnPages
 mod Contents
 mod Entries
 mod KeyPages

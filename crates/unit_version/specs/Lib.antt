@@ -5,6 +5,7 @@ pub mod Content
 pub mod Entry
 pub mod KeyedRow
 pub mod Packed
+pub mod PageRows
 pub mod RowBins
 pub mod Search
 pub mod Split
