@@ -11,7 +11,7 @@ ghost use Rattle.version_store.specs.Version.{Version};
 ghost use Rattle.front_patch.specs.Changed.{AreChanged};
 ghost use Rattle.front_patch.specs.Patch.{IsPatch};
 ghost use Rattle.front_patch.specs.RowStates.{last_state};
-ghost use Rattle.front_patch.specs.Since.{IsContentSince, content_by};
+ghost use Rattle.front_patch.specs.Since.{IsContentSince, ShowsBase, content_by};
 ghost use Rattle.front_patch.specs.Taken.{Serves};
 ghost use Rattle.front_patch.specs.declared.row_state.RowState.{RowState};
 
@@ -22,6 +22,12 @@ pub(crate) fn contents_since()
 {
     version_store::laws::versions();
 }
+
+/// Where the base's content serves a unit, the least length is 0.
+pub(crate) fn base_serves()
+    ensures { (terms : Terms) (log : List Delta) (least : ℕ) (unit : IndexUnit) (version : Option Version) →
+        Serves terms log least unit version → ShowsBase version → least ≡ 0 }
+{}
 
 /// The rows that were changed have their last states, and each other row is as it was at any length from the least on.
 pub(crate) fn changed_rows()

@@ -15,14 +15,15 @@ ghost use Rattle.front_patch.specs.Changed.{IsSteady};
 ghost use Rattle.front_patch.specs.declared.row_test.RowTest.TheVariants.{IsInBins};
 ghost use Rattle.front_patch.specs.Planned.{HasBin, units_of};
 ghost use Rattle.front_patch.specs.Patch.{IsPatch};
-ghost use Rattle.front_patch.specs.Since.{IsContentSince};
+ghost use Rattle.front_patch.specs.Since.{IsContentSince, IsUnionSince};
+ghost use Rattle.unit_version.specs.Union.{bins_from};
 ghost use Rattle.front_patch.specs.Taken.{IsTakenOver, AreGiven, table_at, patched_by, claim_count, fallback_count};
 ghost use Rattle.front_patch.specs.Takes.{KeepsVersions};
 
-use crate::bits::{first_row, or_pages, set_changed, show_none, show_page};
-use crate::claims::{content_by, count_fallbacks, leave_each};
+use crate::bits::{first_row, or_pages, or_plain, set_changed, show_none, show_page};
+use crate::claims::{content_by, count_fallbacks, leave_each, shows_base};
 use crate::page::PageAtFront;
-use crate::patches::{changed_rows, contents_since};
+use crate::patches::{base_serves, changed_rows, contents_since};
 use crate::planned::{page_place, place_in, test_of};
 use crate::row_state::{RowState, states_among};
 use crate::row_test::RowTest;
@@ -30,7 +31,7 @@ use crate::taking::Patch;
 use column_bins::{Column, Plan, Stretch};
 use commit_log::{CommitLog, Front};
 use cubit_base::{Steps, Tuple};
-use fence_window::{BLOCK_GROUPS, Fenced, PAGE_GROUPS, PAGE_ROWS};
+use fence_window::{BLOCK_GROUPS, Fenced, PAGE_GROUPS, PAGE_ROWS, Plain};
 use std::marker::Model;
 use std::snapshot::Snapshot;
 use std::sync::ledger::Ledger;
@@ -172,8 +173,9 @@ impl<S: VersionStore> Taken<S> {
     {
         changed_rows();
         show_none(out);
-        for bin in stretch.first..stretch.after {
-            self.or_bin(store, base, column, bin, first, out);
+        let mut bin = stretch.first;
+        while bin < stretch.after {
+            bin += self.or_bins(store, base, column, bin, stretch.after, first, out);
         }
         set_changed(
             self.changed(),
@@ -310,5 +312,98 @@ impl<S: VersionStore> Taken<S> {
             || passes (IsInBins column (one_bin bin)) (tuple_at (table_at S.Log.terms self.now) (3_968 * first + row))) }
     {
         or_pages(self.bits(store, base, Unit::Bin(column, bin)), first, out);
+    }
+
+    // The same of some bins from one on, and how many these are: those of a union that the base keeps, where its content
+    // serves each of them, or else that bin.
+    fn or_bins(
+        &self,
+        store: &S,
+        base: &Base,
+        column: Column,
+        bin: u8,
+        after: u8,
+        first: u32,
+        out: &mut [u32; BLOCK_GROUPS],
+    ) -> u8
+        requires over { IsTakenOver S.Log.terms (S.gave store.now) (S.shown store.now) base.now self.now }
+        requires some { bin < after }
+        requires planned { (n : ℕ) → bin ≤ n → n < after →
+            Contains (units_of self.now.plan self.now.pages) (Bin column n) }
+        requires groups { All (λ group. group < 2 ^ 31) out.old }
+        ensures some { 1 ≤ result }
+        ensures within { bin + result ≤ after }
+        ensures groups { All (λ group. group < 2 ^ 31) out.new }
+        ensures rows { (row : ℕ) → row < 126_976 →
+            IsSteady S.Log.terms self.now.seen self.now.least (3_968 * first + row) →
+            row_in out.new row ≡ (row_in out.old row || passes (IsInBins column (bins_from bin result))
+            (tuple_at (table_at S.Log.terms self.now) (3_968 * first + row))) }
+    {
+        match self.union_from(store, base, column, bin, after) {
+            Some((union, bins)) => {
+                or_plain(union, first, out);
+                bins
+            }
+            None => {
+                self.or_bin(store, base, column, bin, first, out);
+                1
+            }
+        }
+    }
+
+    // The widest union from a bin on that the base keeps of the bins before another, where its content serves each of
+    // them, and of how many bins it is.
+    fn union_from<'t>(
+        &'t self,
+        store: &'t S,
+        base: &'t Base,
+        column: Column,
+        bin: u8,
+        after: u8,
+    ) -> Option<(&'t Plain, u8)>
+        requires over { IsTakenOver S.Log.terms (S.gave store.now) (S.shown store.now) base.now self.now }
+        requires planned { (n : ℕ) → bin ≤ n → n < after →
+            Contains (units_of self.now.plan self.now.pages) (Bin column n) }
+        ensures { IfSome result (λ r. IsUnionSince S.Log.terms self.now.least column bin after r.1 r.0.now) }
+    {
+        for bins in [16, 12, 4, 2] {
+            if bins <= after.saturating_sub(bin) && self.shows_base(store, base, column, bin, bins) {
+                if let Some(union) = base.coarse(column, bin, bins) {
+                    return Some((union, bins));
+                }
+            }
+        }
+        None
+    }
+
+    // Whether the base's content serves each of so many bins from one on.
+    fn shows_base(&self, store: &S, base: &Base, column: Column, bin: u8, bins: u8) -> bool
+        requires over { IsTakenOver S.Log.terms (S.gave store.now) (S.shown store.now) base.now self.now }
+        requires planned { (n : ℕ) → bin ≤ n → n < bin + bins →
+            Contains (units_of self.now.plan self.now.pages) (Bin column n) }
+        requires end { bin + bins ≤ 255 }
+        requires some { 1 ≤ bins }
+        ensures { result ≡ true → self.now.least ≡ 0 }
+    {
+        if !self.is_of_base(store, base, Unit::Bin(column, bin)) {
+            return false;
+        }
+        for n in bin + 1..bin + bins {
+            if !self.is_of_base(store, base, Unit::Bin(column, n)) {
+                return false;
+            }
+        }
+        true
+    }
+
+    // Whether the base's content serves a unit.
+    fn is_of_base(&self, store: &S, base: &Base, unit: Unit) -> bool
+        requires over { IsTakenOver S.Log.terms (S.gave store.now) (S.shown store.now) base.now self.now }
+        requires planned { Contains (units_of self.now.plan self.now.pages) unit }
+        ensures { result ≡ true → self.now.least ≡ 0 }
+    {
+        base_serves();
+        let _ = base;
+        shows_base(store, &self.claims[place_in(&self.units, unit)])
     }
 }
