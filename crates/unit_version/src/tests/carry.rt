@@ -6,12 +6,16 @@ ghost use Rattle.unit_version.specs.Content.{content_of};
 ghost use Rattle.unit_version.specs.Patch.{IsSomeUnit};
 ghost use Rattle.unit_version.specs.Unit.{IsUnit};
 
+use super::bit;
+use super::story::{built, first_rows, go_on};
 use crate::{Base, Content, Memory, Unit, patched};
 use cubit_base::{DeltaList, laws};
 use std::alloc::Global;
+use std::process::Abort;
+use std::test::Fail;
 
-/// What the unit holds after both stretches, where there are so many rows after each.
-pub(super) fn carried(
+// What the unit holds after both stretches, where there are so many rows after each.
+fn carried(
     alloc: Global,
     base: &Base,
     unit: Unit,
@@ -38,4 +42,37 @@ pub(super) fn carried(
         rows_between,
     )?;
     patched(alloc, unit, &version, rows_between, second, rows_then)
+}
+
+// A drawn history in two stretches, over which the live rows are carried.
+fn carry<R: Abort + AllocGlobal>(rt: &R) -> Result<(), Memory> {
+    laws::histories();
+    let alloc = rt.alloc();
+    let mut rows = first_rows(alloc, 4_000)?;
+    let base = built(alloc, &rows)?;
+    let (first, between) = go_on(alloc, &mut rows, 300, 1)?;
+    let (second, then) = go_on(alloc, &mut rows, 300, 2)?;
+    let content = carried(
+        alloc,
+        &base,
+        Unit::Live,
+        &first,
+        between.rows(),
+        &second,
+        then.rows(),
+    )?;
+    for row in 0..then.rows() {
+        assert_eq!(rt;
+            bit(&content, row),
+            bit(then.content(Unit::Live), row),
+            "of row {row}"
+        );
+    }
+    Ok(())
+}
+
+#[test]
+fn a_unit_goes_on_from_a_prefix(rt: HostRuntime) -> Result<(), Fail> {
+    carry(&rt)?;
+    Ok(())
 }

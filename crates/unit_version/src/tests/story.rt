@@ -8,7 +8,6 @@ ghost use Rattle.wah_words.specs.Place.{page_count};
 ghost use Rattle.unit_version.specs.Unit.{IsUnit};
 ghost use Rattle.unit_version.specs.Patch.{IsSomeUnit};
 
-use super::carry::carried;
 use super::histories::{Rows, change, follow, insert, rows_of, table_from};
 use super::{key_of, table_of, tuple_of};
 use crate::{Base, Changes, Content, Memory, Unit, patched, patched_by};
@@ -192,41 +191,47 @@ fn all_follow<N: Ledger, R: Abort + AllocGlobal>(
     Ok(())
 }
 
-// The unit is carried on from one stretch to the next.
-fn goes_on<N: Ledger, R: Abort + AllocGlobal>(
-    rt: &R,
-    unit: Unit,
-    base: &Base,
-    first: &DeltaList,
-    between: &Base,
-    second: &DeltaList,
-    then: &Base,
-    rows: &Rows,
-    reads: &mut Steps<N>,
-) -> Result<(), Memory>
-    requires unit { IsUnit (page_count base.now.row_room) unit }
-    requires some { IsSomeUnit unit }
-    requires room { then.now.row_room ≡ base.now.row_room }
-    requires lawful { IsHistory 16_777_216 base.now.table first.now }
-    requires middle { between.now.table ≡ after base.now.table first.now }
-    requires on { IsHistory 16_777_216 between.now.table second.now }
-    requires end { then.now.table ≡ after between.now.table second.now }
+// The base of rows.
+pub(super) fn built(alloc: Global, rows: &Rows) -> Result<Base, Memory>
+    requires distinct { HasDistinctLiveKeys rows.now.items }
+    requires few { length rows.now.items ≤ 16_000 }
+    ensures { IfOk result (λ base. base ≡ record { table = rows.now.items; row_room = 16_000 }) }
 {
-    laws::histories();
-    let made = carried(
-        rt.alloc(),
-        base,
-        unit,
-        first,
-        between.rows(),
-        second,
-        then.rows(),
-    )?;
-    is_same(rt, &made, then.content(unit), rows, reads);
-    Ok(())
+    Base::build(alloc, table_from(alloc, rows)?, 16_000)
 }
 
-// Two stretches of a history from a table of so many rows, of which so many deltas each are drawn.
+// Goes on by so many drawn deltas at most, and gives the base after them.
+pub(super) fn go_on(
+    alloc: Global,
+    rows: &mut Rows,
+    count: u32,
+    seed: u64,
+) -> Result<(DeltaList, Base), Memory>
+    requires distinct { HasDistinctLiveKeys rows.old.items }
+    requires few { length rows.old.items + count ≤ 16_000 }
+    ensures lawful { IfOk result (λ r. IsHistory 16_777_216 rows.old.items r.0) }
+    ensures base { IfOk result (λ r. r.1 ≡ record { table = after rows.old.items r.0; row_room = 16_000 }) }
+    ensures rows { IfOk result (λ r. rows.new.items ≡ after rows.old.items r.0) }
+    ensures kept { IfOk result (λ r. HasDistinctLiveKeys rows.new.items) }
+    ensures few { IfOk result (λ r. length rows.new.items ≤ length rows.old.items + count) }
+{
+    laws::live_rows();
+    let deltas = draw(alloc, rows, count, seed)?;
+    let base = built(alloc, rows)?;
+    Ok((deltas, base))
+}
+
+// The rows of a table of so many.
+pub(super) fn first_rows(alloc: Global, rows: u32) -> Result<Rows, Memory>
+    requires { rows ≤ 5_000 }
+    ensures distinct { IfOk result (λ r. HasDistinctLiveKeys r.items) }
+    ensures few { IfOk result (λ r. length r.items ≤ rows) }
+{
+    let table = table_of(alloc, rows)?;
+    rows_of(alloc, &table)
+}
+
+// A history from a table of so many rows, of which so many deltas are drawn.
 fn story<N: Ledger, R: Abort + AllocGlobal>(
     rt: &R,
     rows: u32,
@@ -239,63 +244,12 @@ fn story<N: Ledger, R: Abort + AllocGlobal>(
     requires parts { blank.parts ≡ N.parts }
     requires some { 0 < N.parts }
 {
-    laws::live_rows();
-    laws::histories();
     let alloc = rt.alloc();
+    let mut rows = first_rows(alloc, rows)?;
+    let base = built(alloc, &rows)?;
+    let (deltas, then) = go_on(alloc, &mut rows, count, 1)?;
     let reads = &mut Steps::<N>::make(blank);
-    let table = table_of(alloc, rows)?;
-    let mut rows = rows_of(alloc, &table)?;
-    let first = draw(alloc, &mut rows, count, 1)?;
-    let between = Base::build(alloc, table_from(alloc, &rows)?, 16_000)?;
-    let second = draw(alloc, &mut rows, count, 2)?;
-    let then = Base::build(alloc, table_from(alloc, &rows)?, 16_000)?;
-    let base = Base::build(alloc, table, 16_000)?;
-    all_follow(rt, &base, &first, &between, &rows, reads)?;
-    goes_on(
-        rt,
-        Unit::Live,
-        &base,
-        &first,
-        &between,
-        &second,
-        &then,
-        &rows,
-        reads,
-    )?;
-    goes_on(
-        rt,
-        Unit::Bin(Column::Qty, 6),
-        &base,
-        &first,
-        &between,
-        &second,
-        &then,
-        &rows,
-        reads,
-    )?;
-    goes_on(
-        rt,
-        Unit::Page(1),
-        &base,
-        &first,
-        &between,
-        &second,
-        &then,
-        &rows,
-        reads,
-    )?;
-    goes_on(
-        rt,
-        Unit::Keys(63),
-        &base,
-        &first,
-        &between,
-        &second,
-        &then,
-        &rows,
-        reads,
-    )?;
-    Ok(())
+    all_follow(rt, &base, &deltas, &then, &rows, reads)
 }
 
 #[test]
