@@ -15,7 +15,8 @@ use Rattle.unit_version.proofs.Spans.{number}
 
 -- a delta more in a list
 slice_get-cases : (deltas : List Delta) (d : Delta) (place : ℕ) (e : Delta)
-    → slice_get (deltas ++ d ∷ []) place ≡ Some e → (slice_get deltas place ≡ Some e) ⊎ ((place ≡ length deltas) × (d ≡ e))
+    → slice_get (deltas ++ d ∷ []) place ≡ Some e
+    → (slice_get deltas place ≡ Some e) ⊎ ((place ≡ length deltas) × (d ≡ e))
 slice_get-cases deltas d place e at =
     let within = slice_get_within (deltas ++ d ∷ []) place e at in
     elim (cases_lt place (length deltas)) [

@@ -54,7 +54,8 @@ gap-none entries n behind up near other =
           let at = get_or-map code entries (behind - 1) d 0 (omega arith) in
           let differs = other d (omega arith) in
           elim (cases_lt k (behind - 1)) [
-            | inl earlier ↦ (let far = numbers-far code entries k (behind - 1) d d up earlier (omega arith) in omega arith)
+            | inl earlier ↦
+                (let far = numbers-far code entries k (behind - 1) d d up earlier (omega arith) in omega arith)
             | inr here ↦ (let is : k ≡ behind - 1 = omega arith in rw is (omega arith))
           ];
       same = λ k d from to. absurd (omega arith);

@@ -55,7 +55,8 @@ is_of_key-test rest key deltas of_page low lines = record {
 pub AreKeyChanges-spans : (rest : ℕ) (deltas : List Delta) (tags : List ℕ) (spans : List Span)
     (changes : List KeyChange) → length deltas < 2 ^ 32 → All (λ d. d.key.line < 8) deltas
     → AreTags (key_number rest) deltas tags → AreSpans tags spans → length changes ≡ length spans
-    → ((k : ℕ) (s : Span) (c : KeyChange) → k < length spans → IsKeyChange deltas (get_or spans k s) (get_or changes k c))
+    → ((k : ℕ) (s : Span) (c : KeyChange) → k < length spans
+    → IsKeyChange deltas (get_or spans k s) (get_or changes k c))
     → AreKeyChanges rest deltas changes
 AreKeyChanges-spans rest deltas tags spans changes few lines tags_are spans_are long each =
     let code = λ (c : KeyChange). c.code in

@@ -61,7 +61,8 @@ module _ (rest other : ℕ) (other_low : other < 64) (table : List Row) (old : L
   lives-of_entry key e own low found =
       let placed = find-placed code (code_of key) old e found in
       let x = keyed other e in
-      let has : Has (map (keyed other) old) x = rw (placed.at e) at (Has-keyed other old placed.place e placed.within) in
+      let has : Has (map (keyed other) old) x =
+      rw (placed.at e) at (Has-keyed other old placed.place e placed.within) in
       let there : Has (keyed_from rest 0 table) x =
       subst (λ rows. Has rows x) is (by_row-Has (map (keyed other) old) x has) in
       let same : other ≡ key.order % 64 =
@@ -145,7 +146,8 @@ module _ (rest other : ℕ) (other_low : other < 64) (table : List Row) (old : L
             → option_map key_change change ≡ option_map key_delta (last_delta (is_of_key key) h)
             → Lives (after table h) key e.row e.tuple
         by None is_entry same =
-            by_delta None (unmapped key_delta (last_delta (is_of_key key) h) same) (lives-of_entry key e own low is_entry)
+            by_delta None (unmapped key_delta (last_delta (is_of_key key) h) same)
+            (lives-of_entry key e own low is_entry)
         by (Some c) is_entry same =
             let delta = mapped key_delta (last_delta (is_of_key key) h) (key_change c) same in
             let d = delta.0 in

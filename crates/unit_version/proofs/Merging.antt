@@ -62,7 +62,8 @@ codes-above (x ∷ xs) ys n up_x up_y below above =
     let all : List Entry = x ∷ xs in
     let long = length-map all code in
     let long_y = length-map ys code in
-    subst IsStrictlyIncreasing (sym (codes-append all ys)) (rising-append (codes all) (codes ys) up_x up_y (λ i j low_i low_j.
+    subst IsStrictlyIncreasing (sym (codes-append all ys))
+    (rising-append (codes all) (codes ys) up_x up_y (λ i j low_i low_j.
     (let at_i = code-at all i x (omega arith) in
     let at_j = code-at ys j x (omega arith) in
     let under = below i x (omega arith) in
@@ -126,7 +127,8 @@ at-piece entries a b k e low = get_or-take (b - a) (drop a entries) k e low ∙ 
 
 -- what a step does to the entries so far and those that are left
 module _ (entries : List Entry) (changes : List KeyChange) (i : ℕ) (c : KeyChange) (from : ℕ) (old new : List Entry)
-    (next : ℕ) (up : IsStrictlyIncreasing (codes entries)) (changes_up : IsStrictlyIncreasing (map (λ c. c.code) changes))
+    (next : ℕ) (up : IsStrictlyIncreasing (codes entries))
+    (changes_up : IsStrictlyIncreasing (map (λ c. c.code) changes))
     (within : i < length changes) (is : c ≡ get_or changes i c)
     (so_far : AreMerged (take i changes) entries (old ++ drop from entries))
     (done : AreBefore c.code (length old) old) (step : IsMergeStep entries from c old new next) where
@@ -143,7 +145,8 @@ module _ (entries : List Entry) (changes : List KeyChange) (i : ℕ) (c : KeyCha
   whole-old =
       ap (λ es. old ++ es) (split entries from step.gap step.order
       ∙ ap (λ es. slice_range entries from step.gap ++ es) (split entries step.gap next step.is_gap.order))
-      ∙ sym (append_assoc old (slice_range entries from step.gap) (slice_range entries step.gap next ++ drop next entries))
+      ∙ sym (append_assoc old (slice_range entries from step.gap)
+      (slice_range entries step.gap next ++ drop next entries))
 
   copied-before : AreBefore c.code (length copied) copied
   copied-before k e low =
@@ -175,7 +178,8 @@ module _ (entries : List Entry) (changes : List KeyChange) (i : ℕ) (c : KeyCha
   -- the code of the change, and another one
   own : entry_of c.code ((copied ++ change_entries c) ++ left) ≡ change_entry c
   own =
-      let before = find-absent code c.code copied (λ k e low same. (let below = copied-before k e low in omega arith)) in
+      let before = find-absent code c.code copied
+      (λ k e low same. (let below = copied-before k e low in omega arith)) in
       let behind = find-absent code c.code left (λ k e low same. (let above = left-above k e low in omega arith)) in
       entry_of-append c.code (copied ++ change_entries c) left
       ∙ ap (λ o. option_or o (entry_of c.code left)) (entry_of-append c.code copied (change_entries c))
@@ -191,7 +195,8 @@ module _ (entries : List Entry) (changes : List KeyChange) (i : ℕ) (c : KeyCha
       ∙ ap (λ o. option_or o (entry_of n left)) (entry_of-append n copied (change_entries c)
       ∙ ap (option_or (entry_of n copied)) mine ∙ or-none (entry_of n copied))
       ∙ sym (entry_of-append n copied (passed ++ left)
-      ∙ ap (option_or (entry_of n copied)) (entry_of-append n passed left ∙ ap (λ o. option_or o (entry_of n left)) gone))
+      ∙ ap (option_or (entry_of n copied))
+      (entry_of-append n passed left ∙ ap (λ o. option_or o (entry_of n left)) gone))
 
   made : new ++ left ≡ (copied ++ change_entries c) ++ left
   made = ap (λ es. es ++ left) step.made

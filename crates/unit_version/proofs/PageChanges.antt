@@ -33,7 +33,8 @@ AreHeldThen-none first changes place held is = record {
       find-absent row_of (first + at) (take place changes) (λ k d inside same.
       (let before = is.before k d (omega arith) in
       let there = get_or-take place changes k d (omega arith) in
-      let there_row : (get_or (take place changes) k d).row ≡ (get_or changes k d).row = ap (λ (c : RowChange). c.row) there in
+      let there_row : (get_or (take place changes) k d).row ≡ (get_or changes k d).row =
+      ap (λ (c : RowChange). c.row) there in
       omega arith)) in
       rw none refl;
 }

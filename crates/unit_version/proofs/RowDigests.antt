@@ -23,14 +23,16 @@ is_of_row-test row deltas = record {
 
 pub AreRowChanges-spans : (deltas : List Delta) (tags : List ℕ) (spans : List Span) (changes : List RowChange)
     → length deltas < 2 ^ 32 → AreTags row_number deltas tags → AreSpans tags spans → length changes ≡ length spans
-    → ((k : ℕ) (s : Span) (c : RowChange) → k < length spans → IsRowChange deltas (get_or spans k s) (get_or changes k c))
+    → ((k : ℕ) (s : Span) (c : RowChange) → k < length spans
+    → IsRowChange deltas (get_or spans k s) (get_or changes k c))
     → AreRowChanges deltas changes
 AreRowChanges-spans deltas tags spans changes few tags_are spans_are long each =
     let row = λ (c : RowChange). c.row in
     let s : Span = record { number = 0; first = 0; last = 0 } in
     let c : RowChange = record { row = 0; before = None; after = None } in
     let rows = λ (k : ℕ) (s : Span) (c : RowChange) (low : k < length spans). (each k s c low).row in
-    let by = λ (n : ℕ). digested row row_number deltas tags spans changes (is_of_row n) n few tags_are spans_are long rows
+    let by = λ (n : ℕ).
+    digested row row_number deltas tags spans changes (is_of_row n) n few tags_are spans_are long rows
     (is_of_row-test n deltas) in
     record {
       rising = λ k within.

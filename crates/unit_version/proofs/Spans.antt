@@ -128,7 +128,8 @@ rising-push : (xs : List ℕ) (n : ℕ) → IsStrictlyIncreasing xs
 rising-push xs n up above k within =
     let long = length_push xs n in
     elim (cases_lt (k + 1) (length xs)) [
-      | inl inside ↦ rw (get_or_append_left xs (n ∷ []) 0 k (omega arith), get_or_append_left xs (n ∷ []) 0 (k + 1) inside)
+      | inl inside ↦
+          rw (get_or_append_left xs (n ∷ []) 0 k (omega arith), get_or_append_left xs (n ∷ []) 0 (k + 1) inside)
           (up k inside)
       | inr end ↦
           let here : length xs ≡ k + 1 = omega arith in

@@ -44,7 +44,8 @@ turned-All P u changes all =
 rows-All : (P : ℕ → Type 0) (changes : List RowChange) → All P (map (λ c. c.row) changes) → All (λ c. P c.row) changes
 rows-All P [] all k d low = absurd (omega arith)
 rows-All P (c ∷ changes) all zero d low = all 0 0 (omega arith)
-rows-All P (c ∷ changes) all (suc k) d low = rows-All P changes (λ j e j_low. all (suc j) e (omega arith)) k d (omega arith)
+rows-All P (c ∷ changes) all (suc k) d low =
+    rows-All P changes (λ j e j_low. all (suc j) e (omega arith)) k d (omega arith)
 
 -- the rows that are turned rise
 pub rising-turned : (u : IndexUnit) (changes : List RowChange) → IsStrictlyIncreasing (map (λ c. c.row) changes)

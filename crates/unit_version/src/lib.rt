@@ -10,32 +10,32 @@
 //! Each call is safe and returns.
 //!
 //! - `Base::build`: the base is of the table and the row room that were given. `Base::content`: what a unit holds is
-//!   `content_of` it and the table, for every unit that `IsUnit` names. `Base::rows`, `pages`, `units`: how many these
-//!   are.
+//!   `content_of` it and the table, for every unit that `IsUnit` names. `Base::rows`, `pages`, `units`: how many.
 //! - `Page::get`: the tuple at the place, or none where the row is not live and past the last row (`value`), and one
 //!   read more whatever it answers (`reads`). No other public call gives a page's tuples.
 //! - `Keys::find`: the row and the tuple of the live row with the key, or none exactly where no live row of the page
 //!   has it, as also for a key of another page.
-//! - `laws::keys`: what the page of a key finds is the table's live row with it. `laws::tuples`: the tuples of a page,
-//!   one by one.
-//! - No call but `build` takes memory.
+//! - `patched`, `patched_by`: what a unit holds after deltas (`IsPatched`), for every table that has its content before
+//!   them and over which they are lawful one after another. `Changes::of`: what deltas change, seen as the deltas.
+//! - `laws::keys`: what the page of a key finds is the table's live row with it. `laws::tuples`: a page's tuples.
+//! - Only `build`, `patched`, `patched_by` and `Changes::of` take memory. The last three leave what they are lent.
 //!
 //! # Only tested
 //!
-//! - That `build` succeeds, on tables of up to 4,500 rows.
+//! - That `build` succeeds, on tables of up to 4,500 rows, and that the calls for deltas do, on 500 deltas.
 //!
 //! # Not said
 //!
-//! - Time: no clause says how many places a find looks at, or that it guesses well.
+//! - Time: how many places a find looks at, or that a patch copies most of a content by blocks.
 //! - When there is no memory: `build` lets the table go then.
 //!
 //! # Example
 //!
 //! ```
-//! let base = Base::build(alloc, table, row_room)?;
 //! if let Content::Keys(keys) = base.content(Unit::Keys((key.order % 64) as u8)) {
 //!     let live = keys.find(&key);
 //! }
+//! let content = patched(alloc, unit, base.content(unit), base.rows(), &deltas, rows_after)?;
 //! ```
 #![tactic(auto)]
 

@@ -19,7 +19,8 @@ loop-k-preserved c =
     let row : e.row ≡ (get_or changes k e).row = ap (λ (c : RowChange). c.row) c.index-changes-k.is in
     let low = c.first_from-from.ensures.behind k e c.loop-k.auto.k (omega arith) in
     let high = c.first_from-to.ensures.before k e c.loop-k-test.true in
-    AreHeldThen-more c.args.first changes k e c.args.slots.now.items c.loop-k.slots.items c.requires.rising (omega arith)
+    AreHeldThen-more c.args.first changes k e c.args.slots.now.items c.loop-k.slots.items c.requires.rising
+    (omega arith)
     c.index-changes-k.is (omega arith) (omega (arith, c.loop-k.invariant.long, c.requires.long)) c.loop-k.invariant
 
 pub returns : goal.returns

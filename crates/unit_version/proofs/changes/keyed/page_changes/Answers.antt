@@ -45,6 +45,7 @@ returns c =
     let tags = c.args.tags.items in
     let are : AreSpans tags spans =
     subst (λ (s : List Span). AreSpans tags s) (sym c.deref-span-items.ensures.value) c.in_ok-spans.ensures in
-    AreKeyChanges-spans c.args.rest c.args.deltas.now tags spans c.loop-span.changes.items c.requires.few c.requires.lines
+    AreKeyChanges-spans c.args.rest c.args.deltas.now tags spans c.loop-span.changes.items c.requires.few
+    c.requires.lines
     c.requires.tags are (omega (arith, c.loop-span.invariant.long))
     (λ k s change low. c.loop-span.invariant.each k s change (omega arith))

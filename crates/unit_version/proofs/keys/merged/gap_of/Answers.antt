@@ -27,7 +27,8 @@ returns c =
           let within : behind - 1 < length entries =
           omega (arith, c.requires.near.within, length-map entries (λ (e : Entry). e.code)) in
           w.if-entries-behind.false
-          (ap (λ (e : Entry). e.code) (get_or_default entries (behind - 1) w.index-entries-behind.result e within) ∙ same)
+          (ap (λ (e : Entry). e.code) (get_or_default entries (behind - 1) w.index-entries-behind.result e within)
+          ∙ same)
       | else-behind-ne0-via-else-behind-ne0 w ↦ omega arith
     ] in
     let gap = gap-none entries c.args.code behind c.requires.rising c.requires.near other in
