@@ -309,7 +309,8 @@ impl<S: VersionStore> Taken<S> {
         ensures rows { (row : ℕ) → row < 126_976 →
             IsSteady S.Log.terms self.now.seen self.now.least (3_968 * first + row) →
             row_in out.new row ≡ (row_in out.old row
-            || passes (IsInBins column (one_bin bin)) (tuple_at (table_at S.Log.terms self.now) (3_968 * first + row))) }
+            || passes (IsInBins column (one_bin bin))
+            (tuple_at (table_at S.Log.terms self.now) (3_968 * first + row))) }
     {
         or_pages(self.bits(store, base, Unit::Bin(column, bin)), first, out);
     }
@@ -367,7 +368,9 @@ impl<S: VersionStore> Taken<S> {
         ensures { IfSome result (λ r. IsUnionSince S.Log.terms self.now.least column bin after r.1 r.0.now) }
     {
         for bins in [16, 12, 4, 2] {
-            if bins <= after.saturating_sub(bin) && self.shows_base(store, base, column, bin, bins) {
+            if bins <= after.saturating_sub(bin)
+                && self.shows_base(store, base, column, bin, bins)
+            {
                 if let Some(union) = base.coarse(column, bin, bins) {
                     return Some((union, bins));
                 }

@@ -76,7 +76,15 @@ fn stretch_agrees<S: VersionStore, R: Abort + AllocGlobal>(
             first: bin,
             after: bin + 1,
         };
-        windows_agree(rt, taken, store, base, table, Unit::Bin(column, bin), RowTest::IsInBins(column, one))?;
+        windows_agree(
+            rt,
+            taken,
+            store,
+            base,
+            table,
+            Unit::Bin(column, bin),
+            RowTest::IsInBins(column, one),
+        )?;
     }
     let rows = passing(rt.alloc(), table, RowTest::IsInBins(column, stretch))?;
     let mut out = [7; BLOCK_GROUPS];
@@ -84,7 +92,11 @@ fn stretch_agrees<S: VersionStore, R: Abort + AllocGlobal>(
     for page in 0..32 {
         let expected = page_of(&rows, page as u32);
         for group in 0..PAGE_GROUPS {
-            assert_eq!(rt; out[PAGE_GROUPS * page + group], expected[group], "page {page} of a stretch");
+            assert_eq!(rt;
+                out[PAGE_GROUPS * page + group],
+                expected[group],
+                "page {page} of a stretch"
+            );
         }
     }
     Ok(())
@@ -145,7 +157,13 @@ fn all_agrees<S: VersionStore, M: Ledger, R: Abort + AllocGlobal>(
     requires plan { taken.now.plan ≡ plan.now }
 {
     laws::units();
-    for column in [Column::Ship, Column::Disc, Column::Qty, Column::Flag, Column::Status] {
+    for column in [
+        Column::Ship,
+        Column::Disc,
+        Column::Qty,
+        Column::Flag,
+        Column::Status,
+    ] {
         column_agrees(rt, taken, store, base, table, plan, column)?;
     }
     if is_open(plan) {
