@@ -47,7 +47,7 @@ climbs-run kind start first (suc n) places =
           (start + first + suc n)
           (omega arith)
           (climbs-lower (start + (first + 1)) (place_of (kind first) + 1) (run_of kind (first + 1) n)
-              (start + (first + 1) + n)
+          (start + (first + 1) + n)
           (omega (arith, at)) (climbs-run kind start (first + 1) n places)),
     )
 

@@ -56,7 +56,7 @@ shown-passes test (Some t) tuple old some none = ap (passes test) (sym (some t r
 pub rows-shown : (test : RowTest) (states part : List RowState) (table : List Row) (page : ℕ) (old new : List ℕ) →
     ((list : List Bool) (k : ℕ) → group_at list k < 2 ^ 31) →
     ((list : List Bool) (k place : ℕ) → place < 31 → get_or list (31 * k + place) false ≡ group_row (group_at list k)
-        place) →
+    place) →
     All (λ group. group < 2 ^ 31) new → length new ≡ length old →
     ((row : ℕ) → row < 31 * length old → last_state (3968 * page + row) part ≡ last_state (3968 * page + row) states) →
     ((row : ℕ) → row_in new row ≡ shown_by test (last_state (3968 * page + row) part) (row_in old row)) →
@@ -81,7 +81,7 @@ rows-shown test states part table page old new low row-at small long same shown 
 -- the row of a group in a window
 pub row-of-groups : (list : List Bool) (page n : ℕ) (groups : List ℕ) →
     ((list : List Bool) (k place : ℕ) → place < 31 → get_or list (31 * k + place) false ≡ group_row (group_at list k)
-        place) →
+    place) →
     ((i : ℕ) → i < n → get_or groups i 0 ≡ group_at list (128 * page + i)) → (row : ℕ) → row < 31 * n →
     row_in groups row ≡ get_or list (3968 * page + row) false
 row-of-groups list page n groups row-at are row within =
@@ -102,7 +102,7 @@ or-bits a (suc (suc b)) low-a low-b = absurd (omega (arith, low-b))
 pub row-of-or : (a b place : ℕ) → group_row (bit_or a b) place ≡ (group_row a place || group_row b place)
 row-of-or a b place =
     ap (λ bit. eqb bit 1) (bit_at_or a b place) ∙ or-bits (bit_at a place) (bit_at b place) (bit_at-lt a place)
-        (bit_at-lt b place)
+    (bit_at-lt b place)
 
 -- groups into which those of a list were put by or
 pub ors-small : (list : List Bool) (page n : ℕ) (old new : List ℕ) →
@@ -112,13 +112,13 @@ pub ors-small : (list : List Bool) (page n : ℕ) (old new : List ℕ) →
 ors-small list page n old new low small long-old long-new are k d within =
     let is = get_or_default new k d 0 within ∙ are k (omega (arith, within, long-new)) in
     let bound = or_lt 31 (get_or old k 0) (group_at list (128 * page + k))
-        (small k 0 (omega (arith, within, long-new, long-old)))
+    (small k 0 (omega (arith, within, long-new, long-old)))
     (low list (128 * page + k)) in
     omega (arith, is, bound)
 
 pub ors-rows : (list : List Bool) (page n : ℕ) (old new : List ℕ) →
     ((list : List Bool) (k place : ℕ) → place < 31 → get_or list (31 * k + place) false ≡ group_row (group_at list k)
-        place) →
+    place) →
     ((i : ℕ) → i < n → get_or new i 0 ≡ bit_or (get_or old i 0) (group_at list (128 * page + i))) → (row : ℕ) →
     row < 31 * n → row_in new row ≡ (row_in old row || get_or list (3968 * page + row) false)
 ors-rows list page n old new row-at are row within =

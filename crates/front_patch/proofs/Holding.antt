@@ -82,7 +82,7 @@ each-more pages units unit before middle now are is new asked changes = record {
       (Contains-push_cases units unit other has);
   others = λ other is-other not.
       changes.others other is-other (λ same. not (subst (Contains (units ++ unit ∷ [])) (sym same)
-          (Contains-push units unit)))
+      (Contains-push units unit)))
       ∙ asked.others other is-other (λ has. not (Contains-append_left units (unit ∷ []) other has));
 }
 
@@ -177,7 +177,7 @@ holds-more terms log longer tries units unit gave still shown shows store middle
       told = told-more gave shown shows units unit claims claim store.told was.long was.given
           (λ c given. (keeps c given).1)
           was.told (λ c is-some. subst (λ (told : Option (IndexUnit → Version)). IfSome told
-              (λ versions. shows c ≡ versions unit))
+          (λ versions. shows c ≡ versions unit))
           was.told_stays (one-of terms longer tries unit still shows middle later claim c one is-some).is_told);
       asked = asked-more store.pages units unit store.asked middle.asked later.asked are is new was.asked
           (subst (λ (n : ℕ). TellsAt n unit raised middle.asked later.asked) was.pages asks.asked);

@@ -28,7 +28,7 @@ page-is held table page is = ap page_in is
 pub held-tuple : (terms : Terms) (seen : List Delta) (least page pages at : ℕ)
     (held : Option (Bor (List (Option TupleValue)))) →
     ((table : List Row) (row n i : ℕ) → i < n → slice_get (tuples_from table row n) i ≡ Some
-        (tuple_at table (row + i))) →
+    (tuple_at table (row + i))) →
     IfSome held (λ h. IsContentSince terms seen least (Page page) (content.Page h.now)) →
     IfNone held (pages ≤ page) → rows_after terms.base (take least seen) ≤ 3968 * pages → least ≤ length seen →
     at < 3968 → (len : ℕ) × (least ≤ len) × (len ≤ length seen)

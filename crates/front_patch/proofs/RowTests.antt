@@ -3,9 +3,9 @@ use Rattle.std.proofs.Common.{◌≡◌, List, [], ◌∷◌, Some, None, map, a
 use Rattle.cubit_base.specs.Table.{Row}
 use Rattle.column_bins.specs.declared.column.Column.{Column}
 use Rattle.column_bins.specs.declared.plan_type.Stretch.{Stretch}
-use Rattle.unit_version.specs.Content.{is_live, is_in_bins}
+use Rattle.unit_version.specs.Content.{is_in_bins}
 use Rattle.front_patch.specs.Bits.{passes, bits_by}
-use Rattle.front_patch.specs.declared.row_test.RowTest.TheVariants.{IsLive, IsInBins}
+use Rattle.front_patch.specs.declared.row_test.RowTest.TheVariants.{IsInBins}
 
 -- the test of bins is the definition of what a unit has
 passes-in_bins : (column : Column) (stretch : Stretch) (row : Row) →

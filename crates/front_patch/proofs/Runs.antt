@@ -59,7 +59,7 @@ get-page before pages page within =
     ap (slice_get all) at
     ∙ slice_get-get_or all (length before + page) (Page page) (omega (arith, long, run, within))
     ∙ ap Some (get_or-append-add before (run_of Page 0 pages) page (Page page) ∙ get-run Page 0 pages page
-        (Page page) within
+    (Page page) within
     ∙ ap Page (omega arith))
 
 pub contains-run : (kind : ℕ → IndexUnit) (first n k : ℕ) → first ≤ k → k < first + n

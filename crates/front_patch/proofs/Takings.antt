@@ -80,7 +80,7 @@ serves-one terms log longer least unit shown (Some c) begins fits short =
 pub takes-all : {Claim : Type 0} (terms : Terms) (plan : Plan) (tries : ℕ) (gave : Claim → Type 0)
     (shown : Claim → Version) (base : BaseValue) (before looked held last : Handle) (store later : Store)
     (first front : Front) (least pages : ℕ) (claims : List (Option Claim)) → FitsColumns plan → base.table ≡
-        terms.base →
+    terms.base →
     pages ≡ pages_of plan first.rows → pages ≤ page_count base.row_room →
     SeesMore (with_look before) looked → IsWhole terms looked.seen first →
     SeesMore looked held →

@@ -46,6 +46,7 @@ mod patches;
 mod planned;
 mod row_state;
 mod row_test;
+mod serving;
 mod taken;
 mod taking;
 mod walk;

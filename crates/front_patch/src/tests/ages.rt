@@ -1,10 +1,9 @@
 //! Versions of different ages at one front, against the plain table.
-ghost use Rattle.std.specs.Prelude.{◌≡◌, ◌+◌, ◌*◌, ◌<◌, ◌≤◌, ℕ, [], Some, IfOk, IfSome, Contains, length, take};
+ghost use Rattle.std.specs.Prelude.{◌≡◌, ◌+◌, ◌*◌, ◌<◌, ◌≤◌, [], Some, IfOk, IfSome, length};
 ghost use Rattle.cubit_base.specs.History.{after};
 ghost use Rattle.cubit_base.specs.LiveRow.{HasDistinctLiveKeys};
 ghost use Rattle.column_bins.specs.Column.{bin_count};
-ghost use Rattle.column_bins.specs.Plan.{stretch_of};
-ghost use Rattle.commit_log.specs.Log.{IsWhole, Stands};
+ghost use Rattle.commit_log.specs.Log.{IsWhole};
 ghost use Rattle.commit_log.specs.Handle.{Grows};
 ghost use Rattle.unit_version.specs.Unit.{IsUnit};
 ghost use Rattle.unit_version.specs.declared.unit.Unit.TheVariants.{Bin};
@@ -13,10 +12,9 @@ ghost use Rattle.version_store.specs.Memory.{memory_store, AreVersions};
 ghost use Rattle.version_store.specs.Store.{IsStanding};
 ghost use Rattle.front_patch.specs.Bits.{IsBits};
 ghost use Rattle.front_patch.specs.Planned.{FitsColumns};
-ghost use Rattle.front_patch.specs.Taken.{IsTakenOver};
 
 use super::compared::agrees;
-use super::plain::{copy_of, delta_of, page_of, passing, table_after, table_of};
+use super::plain::{copy_of, delta_of, passing, table_after, table_of};
 use crate::Memory;
 use crate::planned::test_of;
 use column_bins::{Column, Plan, Stretch};

@@ -1,5 +1,5 @@
 //! What is seen at a front, against the plain table, row by row.
-ghost use Rattle.std.specs.Prelude.{◌≡◌, ◌+◌, ◌<◌, ◌≤◌, ℕ, true, Contains};
+ghost use Rattle.std.specs.Prelude.{◌≡◌, ◌+◌, ◌<◌, ℕ, true, Contains};
 ghost use Rattle.column_bins.specs.Plan.{stretch_of};
 ghost use Rattle.commit_log.specs.Handle.{Grows};
 ghost use Rattle.unit_version.specs.declared.unit.Unit.TheVariants.{Bin};
@@ -13,7 +13,6 @@ use crate::planned::is_open;
 use crate::row_test::RowTest;
 use crate::{Memory, Taken, laws, take};
 use column_bins::{Column, Plan, Stretch};
-use commit_log::CommitLog;
 use cubit_base::{Steps, Table};
 use fence_window::{BLOCK_GROUPS, PAGE_GROUPS};
 use std::process::Abort;

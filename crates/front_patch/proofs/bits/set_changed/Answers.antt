@@ -14,4 +14,4 @@ returns c table =
     (omega (arith, c.first_row-first.ensures, within)))
     (λ row. c.set_states.ensures.rows row
     ∙ ap (λ n. shown_by c.args.test (last_state (n + row) part) (row_in c.args.groups.now row))
-        c.first_row-first.ensures)
+    c.first_row-first.ensures)

@@ -11,9 +11,9 @@ returns c terms log n m is order =
     let limit = terms.limits.row_limit in
     let history = is.history in
     let some = c.rows.ensures.count limit terms.base (take n log) (c.histories.ensures.front limit terms.base log n
-        history) in
+    history) in
     let more = c.rows.ensures.count limit terms.base (take m log) (c.histories.ensures.front limit terms.base log m
-        history) in
+    history) in
     omega (
       arith,
       some,

@@ -10,4 +10,4 @@ pub loop-page-preserved : goal.loop-page-preserved
 loop-page-preserved c =
     run-more (λ n. unit.Page n) 0 c.loop-page.page (c.loop-page.page + 1) c.args.units.now.items c.loop-page.units.items
     c.push.new.self.items (unit.Page c.loop-page.page) c.loop-page.invariant c.in_ok-push.ensures.items
-        (ap unit.Page (omega arith)) refl
+    (ap unit.Page (omega arith)) refl

@@ -11,7 +11,7 @@ hold_each-requires-clause-units g c =
     subst (λ (units : List IndexUnit). All (IsUnit (g.S.VersionStore.store c.args.store.now).pages) units)
     (sym (c.deref.ensures.value ∙ c.in_ok-units.ensures))
     (all-units (g.S.VersionStore.store c.args.store.now).pages c.args.plan.now c.args.pages c.requires.columns
-        c.requires.pages)
+    c.requires.pages)
 
 pub hold_each-requires-clause-rising : goal.hold_each-requires-clause-rising
 hold_each-requires-clause-rising g c =

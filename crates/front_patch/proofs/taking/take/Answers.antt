@@ -26,7 +26,7 @@ patch_since-requires-clause-stand g c =
 -- the first front is still one of the log
 stands-last : (g : Over) (c : After-patch_since g) →
     Begins (g.S.Log.CommitLog.handle c.hold_planned.new.log).seen (g.S.Log.CommitLog.handle
-        c.patch_since.new.log).seen →
+    c.patch_since.new.log).seen →
     Stands g.S.Log.CommitLog.terms (g.S.Log.CommitLog.handle c.patch_since.new.log).seen c.front-first.result
 stands-last g c begins =
     let handle = g.S.Log.CommitLog.handle in
@@ -56,7 +56,7 @@ taken_of-requires-clause-patch g c =
       few = omega (arith, pages, few-pages c.args.plan.now first.rows, rows, most);
       paged = λ is.
           let at = stands-last g (goal.at.taken_of-requires-clause-patch g c).After-patch_since
-              c.in-Ok.ensures.only.grows.begins in
+          c.in-Ok.ensures.only.grows.begins in
           omega (
             arith,
             pages,

@@ -15,7 +15,7 @@ returns g c at low =
     let row = 3968 * c.args.page + at in
     let first = c.first_row-first.ensures in
     let held = held-tuple terms now.seen now.least c.args.page now.pages at c.held_page-held.result
-        c.tuples.ensures.each
+    c.tuples.ensures.each
     c.held_page-held.ensures.some c.held_page-held.ensures.none (patch.paged c.requires.pages)
     (omega (arith, patch.within, patch.whole.whole)) low in
     ap (λ tuple. unwrap_or (last_state (c.first_row-first.result + at) c.states_among-changed.result.now) tuple) held.3
@@ -23,4 +23,4 @@ returns g c at low =
     (ap (λ n. last_state (n + at) c.states_among-changed.result.now) first
     ∙ c.states_among-changed.ensures.same row (omega (arith, first)) (omega (arith, first, c.from.ensures, low)))
     ∙ sym (c.changed_rows.ensures terms now.seen now.front now.least now.plan now.pages changed held.0 patch held.1
-        held.2 row)
+    held.2 row)

@@ -50,14 +50,14 @@ returns g c i within =
     let table = after terms.base now.seen in
     let are : (len : ℕ) → now.least ≤ len → len ≤ length now.seen →
     AreChanged changed (after terms.base (take len now.seen)) table = λ len since inside. c.changed_rows.ensures
-        terms now.seen now.front now.least now.plan now.pages changed len
+    terms now.seen now.front now.least now.plan now.pages changed len
     patch since inside in
     c.set_changed.ensures table
     (λ row low none.
     c.loop-bin.invariant.rows row (omega (arith, low, c.loop-bin.invariant.long))
     (λ len since inside.
     unchanged changed (after terms.base (take len now.seen)) table (3968 * c.args.first + row) (are len since inside)
-        none)
+    none)
     ∙ bins-end c.args.column first c.loop-bin.bin c.args.stretch.after (tuple_at table (3968 * c.args.first + row))
     (omega (arith, c.loop-bin.invariant.bin, c.loop-bin-test.false)))
     (states-new changed (after terms.base (take now.least now.seen)) table

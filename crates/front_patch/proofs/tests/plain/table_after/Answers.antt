@@ -29,4 +29,4 @@ pub returns : goal.returns
 returns c =
     c.loop-n.invariant.0
     ∙ take_all c.loop-n.n (applied c.args.table.now c.args.delta.now) (omega
-        (arith, c.loop-n-test.false, c.loop-n.invariant.1))
+    (arith, c.loop-n-test.false, c.loop-n.invariant.1))
