@@ -110,8 +110,8 @@ impl<S: VersionStore> Taken<S> {
         or_pages(self.bits(store, base, Unit::Bin(column, bin)), first, out);
     }
 
-    /// The same of some bins from one on, and how many these are: those of a union that the base keeps, where its content
-    /// serves each of them, or else that bin.
+    /// The same of some bins from one on, and how many these are: those of a union that the base keeps, where its
+    /// content serves each of them, or else that bin.
     pub(crate) fn or_bins(
         &self,
         store: &S,
