@@ -1,5 +1,5 @@
 -- What bitvectors of any age show of rows that did not change.
-use Rattle.std.proofs.Common.{◌≡◌, ℕ, zero, suc, ◌+◌, ◌-◌, ◌*◌, ◌<◌, ◌≤◌, ◌∙◌, ◌||◌, Bool, true, false, List, [], length, map, take, get_or, Contains, Option, Some, None, refl, sym, ap, subst, arith}
+use Rattle.std.proofs.Common.{◌≡◌, ℕ, ◌+◌, ◌-◌, ◌*◌, ◌<◌, ◌≤◌, ◌∙◌, ◌||◌, Bool, false, List, [], length, map, take, get_or, Option, Some, None, refl, sym, ap, arith}
 use Rattle.std.specs.Prelude.{nat_le, nat_lt, ◌&&◌}
 use Rattle.std.specs.Option.{unwrap_or}
 use Rattle.std.proofs.lemmas.Bool.Decides.{nat_tests}
@@ -10,7 +10,6 @@ use Rattle.cubit_base.specs.History.{after}
 use Rattle.cubit_base.specs.declared.delta.Delta.{Delta}
 use Rattle.commit_log.specs.Log.{Terms}
 use Rattle.column_bins.specs.Column.{tuple_bin}
-use Rattle.column_bins.specs.Plan.{in_stretch}
 use Rattle.column_bins.specs.declared.column.Column.{Column}
 use Rattle.column_bins.specs.declared.plan_type.Stretch.{Stretch}
 use Rattle.unit_version.specs.Content.{content_of, is_in_bins, one_bin}
@@ -25,7 +24,7 @@ use Rattle.front_patch.specs.Changed.{AreChanged, AreStates, IsSteady, ShowOther
 use Rattle.front_patch.specs.RowStates.{last_state}
 use Rattle.front_patch.specs.declared.row_state.RowState.{RowState}
 use Rattle.front_patch.specs.declared.row_test.RowTest.{RowTest}
-use Rattle.front_patch.specs.declared.row_test.RowTest.TheVariants.{IsLive, IsInBins}
+use Rattle.front_patch.specs.declared.row_test.RowTest.TheVariants.{IsInBins}
 use Rattle.front_patch.proofs.Groups.{row-passes}
 use Rattle.front_patch.proofs.RowTests.{bits-in_bins}
 

@@ -1,5 +1,5 @@
 -- Stores in memory while the log grows.
-use Rattle.std.proofs.Common.{◌≡◌, List}
+use Rattle.std.proofs.Common.{List}
 use Rattle.cubit_base.specs.declared.delta.Delta.{Delta}
 use Rattle.commit_log.specs.Log.{Terms}
 use Rattle.commit_log.specs.Handle.{Begins}

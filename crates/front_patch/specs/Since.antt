@@ -29,7 +29,8 @@ abbrev pub ShowsBase : Option Version → Type 0
 ShowsBase version = IfSome version (λ v. v.content ≡ None)
 
 -- the bitvector is the union of so many bins from one on, over the base table, which serves where the least length is 0
-pub record IsUnionSince (terms : Terms) (least : ℕ) (column : Column) (bin after bins : ℕ) (bits : List Bool) : Type 0 where
+pub record IsUnionSince (terms : Terms) (least : ℕ) (column : Column) (bin after bins : ℕ) (bits : List Bool) : Type
+    0 where
   pub some : 1 ≤ bins
   pub within : bin + bins ≤ after
   pub least_is : least ≡ 0

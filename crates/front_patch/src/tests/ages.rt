@@ -1,10 +1,9 @@
 //! Versions of different ages at one front, against the plain table.
-ghost use Rattle.std.specs.Prelude.{◌≡◌, ◌+◌, ◌*◌, ◌<◌, ◌≤◌, ℕ, [], Some, IfOk, IfSome, Contains, length, take};
+ghost use Rattle.std.specs.Prelude.{◌≡◌, ◌+◌, ◌*◌, ◌<◌, ◌≤◌, [], Some, IfOk, IfSome, length};
 ghost use Rattle.cubit_base.specs.History.{after};
 ghost use Rattle.cubit_base.specs.LiveRow.{HasDistinctLiveKeys};
 ghost use Rattle.column_bins.specs.Column.{bin_count};
-ghost use Rattle.column_bins.specs.Plan.{stretch_of};
-ghost use Rattle.commit_log.specs.Log.{IsWhole, Stands};
+ghost use Rattle.commit_log.specs.Log.{IsWhole};
 ghost use Rattle.commit_log.specs.Handle.{Grows};
 ghost use Rattle.unit_version.specs.Unit.{IsUnit};
 ghost use Rattle.unit_version.specs.declared.unit.Unit.TheVariants.{Bin};
@@ -13,10 +12,9 @@ ghost use Rattle.version_store.specs.Memory.{memory_store, AreVersions};
 ghost use Rattle.version_store.specs.Store.{IsStanding};
 ghost use Rattle.front_patch.specs.Bits.{IsBits};
 ghost use Rattle.front_patch.specs.Planned.{FitsColumns};
-ghost use Rattle.front_patch.specs.Taken.{IsTakenOver};
 
 use super::compared::agrees;
-use super::plain::{copy_of, delta_of, page_of, passing, table_after, table_of};
+use super::plain::{copy_of, delta_of, passing, table_after, table_of};
 use crate::Memory;
 use crate::planned::test_of;
 use column_bins::{Column, Plan, Stretch};
@@ -117,7 +115,16 @@ fn replace_bins<S: Setup, N: Ledger, R: Abort + AllocGlobal>(
     ensures same { log.new ≡ log.old }
 {
     for bin in stretch.first..stretch.after {
-        replace_bits(rt, log, store, base, Unit::Bin(column, bin), front, table, steps)?;
+        replace_bits(
+            rt,
+            log,
+            store,
+            base,
+            Unit::Bin(column, bin),
+            front,
+            table,
+            steps,
+        )?;
     }
     Ok(())
 }
@@ -151,10 +158,28 @@ fn grow_by<S: Setup, N: Ledger, R: Abort + AllocGlobal>(
 }
 
 const AGES: [(Column, Stretch); 5] = [
-    (Column::Qty, Stretch { first: 0, after: 10 }),
-    (Column::Qty, Stretch { first: 10, after: 20 }),
+    (
+        Column::Qty,
+        Stretch {
+            first: 0,
+            after: 10,
+        },
+    ),
+    (
+        Column::Qty,
+        Stretch {
+            first: 10,
+            after: 20,
+        },
+    ),
     (Column::Disc, Stretch { first: 4, after: 7 }),
-    (Column::Ship, Stretch { first: 48, after: 54 }),
+    (
+        Column::Ship,
+        Stretch {
+            first: 48,
+            after: 54,
+        },
+    ),
     (Column::Flag, Stretch { first: 0, after: 2 }),
 ];
 
@@ -234,17 +259,35 @@ fn plans_agree<S: VersionStore, N: Ledger, M: Ledger, R: Abort + AllocGlobal>(
     let [_, second, third, fourth, _, last] = lengths;
     assert!(rt; second < third && third < fourth && fourth < last);
     let plan = plan_of(None, None, None, false);
-    assert_eq!(rt; agrees(rt, log, store, base, table, &plan, steps, reads)?, (last - third, 0));
+    assert_eq!(rt;
+        agrees(rt, log, store, base, table, &plan, steps, reads)?,
+        (last - third, 0)
+    );
     let plan = plan_of(some(48, 54), None, None, false);
-    assert_eq!(rt; agrees(rt, log, store, base, table, &plan, steps, reads)?, (last - fourth, 0));
+    assert_eq!(rt;
+        agrees(rt, log, store, base, table, &plan, steps, reads)?,
+        (last - fourth, 0)
+    );
     let plan = plan_of(some(48, 54), some(4, 7), some(10, 20), false);
-    assert_eq!(rt; agrees(rt, log, store, base, table, &plan, steps, reads)?, (last - second, 0));
+    assert_eq!(rt;
+        agrees(rt, log, store, base, table, &plan, steps, reads)?,
+        (last - second, 0)
+    );
     let plan = plan_of(some(48, 54), some(4, 7), some(0, 50), true);
-    assert_eq!(rt; agrees(rt, log, store, base, table, &plan, steps, reads)?, (last, 0));
+    assert_eq!(rt;
+        agrees(rt, log, store, base, table, &plan, steps, reads)?,
+        (last, 0)
+    );
     let plan = plan_of(None, None, some(3, 2), false);
-    assert_eq!(rt; agrees(rt, log, store, base, table, &plan, steps, reads)?, (0, 0));
+    assert_eq!(rt;
+        agrees(rt, log, store, base, table, &plan, steps, reads)?,
+        (0, 0)
+    );
     let plan = plan_of(None, None, some(3, 2), true);
-    assert_eq!(rt; agrees(rt, log, store, base, table, &plan, steps, reads)?, (last, 0));
+    assert_eq!(rt;
+        agrees(rt, log, store, base, table, &plan, steps, reads)?,
+        (last, 0)
+    );
     Ok(())
 }
 

@@ -1,5 +1,5 @@
 //! What is seen at a front, against the plain table, row by row.
-ghost use Rattle.std.specs.Prelude.{◌≡◌, ◌+◌, ◌<◌, ◌≤◌, ℕ, true, Contains};
+ghost use Rattle.std.specs.Prelude.{◌≡◌, ◌+◌, ◌<◌, ℕ, true, Contains};
 ghost use Rattle.column_bins.specs.Plan.{stretch_of};
 ghost use Rattle.commit_log.specs.Handle.{Grows};
 ghost use Rattle.unit_version.specs.declared.unit.Unit.TheVariants.{Bin};
@@ -13,7 +13,6 @@ use crate::planned::is_open;
 use crate::row_test::RowTest;
 use crate::{Memory, Taken, laws, take};
 use column_bins::{Column, Plan, Stretch};
-use commit_log::CommitLog;
 use cubit_base::{Steps, Table};
 use fence_window::{BLOCK_GROUPS, PAGE_GROUPS};
 use std::process::Abort;
@@ -76,7 +75,15 @@ fn stretch_agrees<S: VersionStore, R: Abort + AllocGlobal>(
             first: bin,
             after: bin + 1,
         };
-        windows_agree(rt, taken, store, base, table, Unit::Bin(column, bin), RowTest::IsInBins(column, one))?;
+        windows_agree(
+            rt,
+            taken,
+            store,
+            base,
+            table,
+            Unit::Bin(column, bin),
+            RowTest::IsInBins(column, one),
+        )?;
     }
     let rows = passing(rt.alloc(), table, RowTest::IsInBins(column, stretch))?;
     let mut out = [7; BLOCK_GROUPS];
@@ -84,7 +91,11 @@ fn stretch_agrees<S: VersionStore, R: Abort + AllocGlobal>(
     for page in 0..32 {
         let expected = page_of(&rows, page as u32);
         for group in 0..PAGE_GROUPS {
-            assert_eq!(rt; out[PAGE_GROUPS * page + group], expected[group], "page {page} of a stretch");
+            assert_eq!(rt;
+                out[PAGE_GROUPS * page + group],
+                expected[group],
+                "page {page} of a stretch"
+            );
         }
     }
     Ok(())
@@ -145,7 +156,13 @@ fn all_agrees<S: VersionStore, M: Ledger, R: Abort + AllocGlobal>(
     requires plan { taken.now.plan ≡ plan.now }
 {
     laws::units();
-    for column in [Column::Ship, Column::Disc, Column::Qty, Column::Flag, Column::Status] {
+    for column in [
+        Column::Ship,
+        Column::Disc,
+        Column::Qty,
+        Column::Flag,
+        Column::Status,
+    ] {
         column_agrees(rt, taken, store, base, table, plan, column)?;
     }
     if is_open(plan) {

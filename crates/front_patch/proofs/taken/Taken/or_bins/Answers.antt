@@ -1,4 +1,4 @@
-use Rattle.std.proofs.Common.{◌≡◌, ◌+◌, ◌*◌, ◌∙◌, ◌||◌, ap}
+use Rattle.std.proofs.Common.{◌+◌, ◌*◌, ◌∙◌, ◌||◌, ap}
 use Rattle.unit_version.specs.Union.{bins_from}
 use Rattle.front_patch.specs.Bits.{row_in}
 use Rattle.front_patch.proofs.Shown.{union-steady}

@@ -1,4 +1,4 @@
-use Rattle.std.proofs.Common.{◌≤◌, ◌<◌, arith}
+use Rattle.std.proofs.Common.{arith}
 use Rattle.front_patch.proofs.taken.Taken.shows_base.Goals as goal
 
 pub is_of_base-requires-clause-planned : goal.is_of_base-requires-clause-planned

@@ -1,4 +1,4 @@
-use Rattle.std.proofs.Common.{◌≡◌, ℕ, length, ◌+◌, ◌-◌, ◌*◌, ◌<◌, ◌≤◌, ◌∙◌, ◌||◌, ap, sym, refl, arith, take}
+use Rattle.std.proofs.Common.{ℕ, length, ◌+◌, ◌*◌, ◌≤◌, ◌∙◌, ◌||◌, ap, arith, take}
 use Rattle.wah_words.specs.Group.{group_at}
 use Rattle.cubit_base.specs.History.{after}
 use Rattle.cubit_base.specs.LiveRow.{tuple_at}
@@ -49,13 +49,15 @@ returns g c i within =
     let first = c.args.stretch.first in
     let table = after terms.base now.seen in
     let are : (len : ℕ) → now.least ≤ len → len ≤ length now.seen →
-    AreChanged changed (after terms.base (take len now.seen)) table = λ len since inside. c.changed_rows.ensures terms now.seen now.front now.least now.plan now.pages changed len
+    AreChanged changed (after terms.base (take len now.seen)) table = λ len since inside. c.changed_rows.ensures
+    terms now.seen now.front now.least now.plan now.pages changed len
     patch since inside in
     c.set_changed.ensures table
     (λ row low none.
     c.loop-bin.invariant.rows row (omega (arith, low, c.loop-bin.invariant.long))
     (λ len since inside.
-    unchanged changed (after terms.base (take len now.seen)) table (3968 * c.args.first + row) (are len since inside) none)
+    unchanged changed (after terms.base (take len now.seen)) table (3968 * c.args.first + row) (are len since inside)
+    none)
     ∙ bins-end c.args.column first c.loop-bin.bin c.args.stretch.after (tuple_at table (3968 * c.args.first + row))
     (omega (arith, c.loop-bin.invariant.bin, c.loop-bin-test.false)))
     (states-new changed (after terms.base (take now.least now.seen)) table

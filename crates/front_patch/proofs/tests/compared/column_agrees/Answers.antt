@@ -9,4 +9,5 @@ pub stretch_agrees-requires-clause-planned : goal.stretch_agrees-requires-clause
 stretch_agrees-requires-clause-planned g c bin has =
     subst (λ (plan : Plan). Contains (units_of plan c.args.taken.now.pages) (Bin c.args.column bin))
     (sym c.requires.plan)
-    (c.units.ensures.bins c.args.plan.now c.args.taken.now.pages c.args.column c.in-Some.stretch bin (sym c.stretch_in.ensures ∙ c.in-Some.is) has)
+    (c.units.ensures.bins c.args.plan.now c.args.taken.now.pages c.args.column c.in-Some.stretch bin
+    (sym c.stretch_in.ensures ∙ c.in-Some.is) has)
