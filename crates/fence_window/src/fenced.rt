@@ -62,7 +62,8 @@ impl Fenced {
         &self.wah
     }
 
-    /// The list with false after it up to `rows`, and then with the rows at these places turned.
+    /// The list with false after it up to `rows`, and then with the rows at these places turned. Where that is the same
+    /// list it takes a copy of the words and the fences, and else passes over the words.
     pub fn toggled(&self, alloc: Global, places: &[u32], rows: u32) -> Result<Fenced, Memory>
         requires rising { IsStrictlyIncreasing places.now }
         requires below { All (λ place. place < rows) places.now }
@@ -70,7 +71,20 @@ impl Fenced {
         ensures length { IfOk result (λ fenced. length fenced ≡ rows) }
         ensures rows { IfOk result (λ fenced. IsToggled self.now places.now fenced) }
     {
+        if places.is_empty() && rows == self.wah.len() {
+            return self.copied(alloc);
+        }
         Fenced::make(alloc, self.wah.toggled(alloc, places, rows)?)
+    }
+
+    // The list once more.
+    fn copied(&self, alloc: Global) -> Result<Fenced, Memory>
+        ensures { IfOk result (λ fenced. fenced ≡ self.now) }
+    {
+        let wah = self.wah.extended(alloc, self.wah.len())?;
+        let mut fences = Vec::with_capacity(alloc, self.fences.len())?;
+        fences.extend_from_slice(&self.fences)?;
+        Ok(Fenced { wah, fences })
     }
 
     /// Writes the groups of a page, and 0 where there are none. It takes no memory.

@@ -5,11 +5,12 @@
 //!
 //! - `Fenced::make`, `wah`: the list is that of the bitvector that was given, and so are its words.
 //! - `Fenced::from_pages`: the list of so many rows whose pages were written.
+//! - `Fenced::toggled`: the list, with false after it up to a length, and then with the rows at some places turned.
 //! - `Fenced::window`: the 128 groups of a page, and 0 where the list has none, at every page number.
 //! - `Fenced::or_into`: 4,096 numbers become the or with the groups of 32 pages, and stay where the list has none.
 //! - `Fenced::get`: the truth value of a row.
 //! - `Plain::from_groups`: the list of so many rows whose groups these are. `or_into`: the same as that of `Fenced`.
-//! - No call but `make` and `from_pages` takes memory, and every call returns.
+//! - No call but `make`, `from_pages` and `toggled` takes memory, and every call returns.
 //!
 //! # Only tested
 //!

@@ -1,5 +1,5 @@
 -- The units of a plan in the order of their places.
-use Rattle.std.proofs.Common.{◌≡◌, ℕ, zero, suc, ◌+◌, ◌-◌, ◌<◌, ◌≤◌, ◌∙◌, Bool, true, false, List, [], ◌∷◌, ◌++◌, length, get_or, All, AllPairs, Option, Some, None, refl, sym, ap, subst, arith, ⊎_elim, if◌then◌else◌}
+use Rattle.std.proofs.Common.{◌≡◌, ℕ, zero, suc, ◌+◌, ◌-◌, ◌<◌, ◌≤◌, Bool, true, false, List, [], ◌∷◌, ◌++◌, length, get_or, All, AllPairs, Option, Some, None, refl, sym, subst, arith, ⊎_elim, if◌then◌else◌}
 use Rattle.std.proofs.lemmas.Bool.{cases_lt}
 use Rattle.std.proofs.lemmas.List.Elements.{All-append, All-cons, All-nil}
 use Rattle.column_bins.specs.Column.{bin_count}
@@ -12,7 +12,7 @@ use Rattle.unit_version.specs.Unit.{IsUnit}
 use Rattle.unit_version.specs.declared.unit.Unit.{Unit as IndexUnit}
 use Rattle.unit_version.specs.declared.unit.Unit.TheVariants.{Live, Bin, Page}
 use Rattle.version_store.specs.Place.{place_of, first_bin}
-use Rattle.front_patch.specs.Planned.{HasBin, FitsColumns, run_of, bins_of, is_open, bitvectors_of, units_of}
+use Rattle.front_patch.specs.Planned.{FitsColumns, run_of, bins_of, is_open, bitvectors_of, units_of}
 
 -- the units' places rise, from one number up to another
 abbrev pub Climbs : ℕ → List IndexUnit → ℕ → Type 0
@@ -43,9 +43,11 @@ climbs-run kind start first zero places = omega arith
 climbs-run kind start first (suc n) places =
     let at = places first in (
       omega (arith, at),
-      climbs-higher (place_of (kind first) + 1) (run_of kind (first + 1) n) (start + (first + 1) + n) (start + first + suc n)
+      climbs-higher (place_of (kind first) + 1) (run_of kind (first + 1) n) (start + (first + 1) + n)
+          (start + first + suc n)
           (omega arith)
-          (climbs-lower (start + (first + 1)) (place_of (kind first) + 1) (run_of kind (first + 1) n) (start + (first + 1) + n)
+          (climbs-lower (start + (first + 1)) (place_of (kind first) + 1) (run_of kind (first + 1) n)
+          (start + (first + 1) + n)
           (omega (arith, at)) (climbs-run kind start (first + 1) n places)),
     )
 

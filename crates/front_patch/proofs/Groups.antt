@@ -1,8 +1,7 @@
 -- Rows of groups, and the groups of lists.
-use Rattle.std.proofs.Common.{◌≡◌, ◌≢◌, ℕ, zero, suc, ◌+◌, ◌-◌, ◌*◌, ◌/◌, ◌%◌, ◌^◌, ◌==◌, ◌<◌, ◌≤◌, ◌∙◌, ◌||◌, Bool, true, false, eqb, List, [], ◌∷◌, ◌++◌, length, map, get_or, slice_get, All, Option, Some, None, refl, sym, ap, subst, arith, inl, inr, ⊎_elim, max}
+use Rattle.std.proofs.Common.{◌≡◌, ℕ, zero, suc, ◌+◌, ◌*◌, ◌/◌, ◌%◌, ◌^◌, ◌<◌, ◌∙◌, ◌||◌, Bool, false, eqb, List, [], ◌∷◌, length, get_or, All, Option, Some, None, refl, sym, ap, arith, ⊎_elim, max}
 use Rattle.std.specs.Prelude.{bit_or}
 use Rattle.std.specs.Int.{bit_at}
-use Rattle.std.specs.Option.{unwrap_or, option_map, option_and_then}
 use Rattle.std.proofs.lemmas.Bool.{cases_eq, eqb-true, eqb-false, eq-eqb, ne_eqb}
 use Rattle.std.proofs.lemmas.List.{get_or_default}
 use Rattle.std.proofs.lemmas.Nat.{or_lt}
@@ -27,7 +26,8 @@ bit-of a b low-a low-b same =
     (cases_eq a 1)
 
 -- groups with the same rows
-pub groups-same : (a b : ℕ) → a < 2 ^ 31 → b < 2 ^ 31 → ((place : ℕ) → place < 31 → group_row a place ≡ group_row b place) →
+pub groups-same : (a b : ℕ) → a < 2 ^ 31 → b < 2 ^ 31
+    → ((place : ℕ) → place < 31 → group_row a place ≡ group_row b place) →
     a ≡ b
 groups-same a b low-a low-b same =
     same_from_bits_below 31 a b low-a low-b (λ i within.
@@ -55,7 +55,8 @@ shown-passes test (Some t) tuple old some none = ap (passes test) (sym (some t r
 -- groups of which each row is shown so
 pub rows-shown : (test : RowTest) (states part : List RowState) (table : List Row) (page : ℕ) (old new : List ℕ) →
     ((list : List Bool) (k : ℕ) → group_at list k < 2 ^ 31) →
-    ((list : List Bool) (k place : ℕ) → place < 31 → get_or list (31 * k + place) false ≡ group_row (group_at list k) place) →
+    ((list : List Bool) (k place : ℕ) → place < 31 → get_or list (31 * k + place) false ≡ group_row (group_at list k)
+    place) →
     All (λ group. group < 2 ^ 31) new → length new ≡ length old →
     ((row : ℕ) → row < 31 * length old → last_state (3968 * page + row) part ≡ last_state (3968 * page + row) states) →
     ((row : ℕ) → row_in new row ≡ shown_by test (last_state (3968 * page + row) part) (row_in old row)) →
@@ -79,7 +80,8 @@ rows-shown test states part table page old new low row-at small long same shown 
 
 -- the row of a group in a window
 pub row-of-groups : (list : List Bool) (page n : ℕ) (groups : List ℕ) →
-    ((list : List Bool) (k place : ℕ) → place < 31 → get_or list (31 * k + place) false ≡ group_row (group_at list k) place) →
+    ((list : List Bool) (k place : ℕ) → place < 31 → get_or list (31 * k + place) false ≡ group_row (group_at list k)
+    place) →
     ((i : ℕ) → i < n → get_or groups i 0 ≡ group_at list (128 * page + i)) → (row : ℕ) → row < 31 * n →
     row_in groups row ≡ get_or list (3968 * page + row) false
 row-of-groups list page n groups row-at are row within =
@@ -99,7 +101,8 @@ or-bits a (suc (suc b)) low-a low-b = absurd (omega (arith, low-b))
 -- the row of an or
 pub row-of-or : (a b place : ℕ) → group_row (bit_or a b) place ≡ (group_row a place || group_row b place)
 row-of-or a b place =
-    ap (λ bit. eqb bit 1) (bit_at_or a b place) ∙ or-bits (bit_at a place) (bit_at b place) (bit_at-lt a place) (bit_at-lt b place)
+    ap (λ bit. eqb bit 1) (bit_at_or a b place) ∙ or-bits (bit_at a place) (bit_at b place) (bit_at-lt a place)
+    (bit_at-lt b place)
 
 -- groups into which those of a list were put by or
 pub ors-small : (list : List Bool) (page n : ℕ) (old new : List ℕ) →
@@ -108,12 +111,14 @@ pub ors-small : (list : List Bool) (page n : ℕ) (old new : List ℕ) →
     All (λ group. group < 2 ^ 31) new
 ors-small list page n old new low small long-old long-new are k d within =
     let is = get_or_default new k d 0 within ∙ are k (omega (arith, within, long-new)) in
-    let bound = or_lt 31 (get_or old k 0) (group_at list (128 * page + k)) (small k 0 (omega (arith, within, long-new, long-old)))
+    let bound = or_lt 31 (get_or old k 0) (group_at list (128 * page + k))
+    (small k 0 (omega (arith, within, long-new, long-old)))
     (low list (128 * page + k)) in
     omega (arith, is, bound)
 
 pub ors-rows : (list : List Bool) (page n : ℕ) (old new : List ℕ) →
-    ((list : List Bool) (k place : ℕ) → place < 31 → get_or list (31 * k + place) false ≡ group_row (group_at list k) place) →
+    ((list : List Bool) (k place : ℕ) → place < 31 → get_or list (31 * k + place) false ≡ group_row (group_at list k)
+    place) →
     ((i : ℕ) → i < n → get_or new i 0 ≡ bit_or (get_or old i 0) (group_at list (128 * page + i))) → (row : ℕ) →
     row < 31 * n → row_in new row ≡ (row_in old row || get_or list (3968 * page + row) false)
 ors-rows list page n old new row-at are row within =

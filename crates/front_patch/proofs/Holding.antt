@@ -1,7 +1,7 @@
 -- Units held one after another.
-use Rattle.std.proofs.Common.{◌≡◌, ◌≢◌, ℕ, zero, suc, ◌+◌, ◌*◌, ◌^◌, ◌<◌, ◌≤◌, min, ◌∙◌, ◌⊎◌, ⊎_elim, Bool, true, false, cond, List, [], ◌∷◌, ◌++◌, length, take, get_or, slice_get, Option, Some, None, IfSome, All, AllPairs, Contains, refl, sym, ap, subst, arith, inl, inr, length-append, zero-add}
+use Rattle.std.proofs.Common.{◌≡◌, ℕ, suc, ◌+◌, ◌*◌, ◌<◌, ◌≤◌, ◌∙◌, ⊎_elim, Bool, cond, List, [], ◌∷◌, ◌++◌, length, take, get_or, Option, Some, None, IfSome, All, AllPairs, Contains, refl, sym, ap, subst, arith, length-append, zero-add}
 use Rattle.std.specs.Prelude.{count_by, is_some, is_none}
-use Rattle.std.proofs.lemmas.List.Elements.{All-append, All-nil, All-push, Contains-push, Contains-push_cases, Contains-append_left}
+use Rattle.std.proofs.lemmas.List.Elements.{All-nil, All-push, Contains-push, Contains-push_cases, Contains-append_left}
 use Rattle.std.proofs.lemmas.List.Sums.{sum_by-append}
 use Rattle.std.proofs.Math.Nat.{mul-suc}
 use Rattle.std.proofs.lemmas.List.{get_or-take, length-take-le, get_or_default}
@@ -14,7 +14,7 @@ use Rattle.version_store.specs.Lasting.{fits-last}
 use Rattle.version_store.specs.Place.{place_of}
 use Rattle.version_store.specs.Store.{Store, Gives, Asks, KeepsClaims, RoseBy, ChangesAt, TellsAt}
 use Rattle.version_store.specs.Version.{Version, Fits}
-use Rattle.front_patch.specs.Holding.{HoldsOne, HoldsEach, AreFitting}
+use Rattle.front_patch.specs.Holding.{HoldsOne, HoldsEach}
 use Rattle.front_patch.specs.Taken.{AreGiven, claim_count, fallback_count}
 use Rattle.front_patch.specs.Takes.{AreTold, TellsEach, AskedEach}
 use Rattle.front_patch.proofs.Slots.{both-snoc, all-at, none-at}
@@ -34,7 +34,8 @@ given-more gave still claims claim keeps given new =
 
 pub count-snoc : {X : Type 0} (p : X → Bool) (xs : List X) (x : X) →
     count_by p (xs ++ x ∷ []) ≡ count_by p xs + cond (p x) 1 0
-count-snoc p xs x = sum_by-append (λ y. cond (p y) 1 0) xs (x ∷ []) ∙ ap (λ n. count_by p xs + n) (zero-add (cond (p x) 1 0))
+count-snoc p xs x = sum_by-append (λ y. cond (p y) 1 0) xs (x ∷ [])
+    ∙ ap (λ n. count_by p xs + n) (zero-add (cond (p x) 1 0))
 
 -- ---- told versions
 
@@ -80,7 +81,8 @@ each-more pages units unit before middle now are is new asked changes = record {
       (changes.here ∙ ap raised (asked.others unit is new)))
       (Contains-push_cases units unit other has);
   others = λ other is-other not.
-      changes.others other is-other (λ same. not (subst (Contains (units ++ unit ∷ [])) (sym same) (Contains-push units unit)))
+      changes.others other is-other (λ same. not (subst (Contains (units ++ unit ∷ [])) (sym same)
+      (Contains-push units unit)))
       ∙ asked.others other is-other (λ has. not (Contains-append_left units (unit ∷ []) other has));
 }
 
@@ -158,10 +160,12 @@ pub holds-more : {Claim : Type 0} (terms : Terms) (log longer : List Delta) (tri
     KeepsClaims gave still shown shows → Asks unit middle later →
     HoldsOne terms longer tries unit still shows middle later claim →
     HoldsEach terms longer tries (units ++ unit ∷ []) still shows store later (claims ++ claim ∷ [])
-holds-more terms log longer tries units unit gave still shown shows store middle later claims claim was begins are is new keeps asks one =
+holds-more terms log longer tries units unit gave still shown shows store middle later claims claim was begins are is
+    new keeps asks one =
     record {
       long = omega (arith, length-append claims (claim ∷ []), length-append units (unit ∷ []), was.long);
-      given = given-more gave still claims claim (λ c given. (keeps c given).0) was.given (given-one terms longer tries unit still shows middle later claim one);
+      given = given-more gave still claims claim (λ c given. (keeps c given).0) was.given
+          (given-one terms longer tries unit still shows middle later claim one);
       fitting = λ i other c at at-claim. ⊎_elim
           (λ old.
           let kept = keeps c (all-at (λ o. IfSome o gave) claims i (Some c) was.given old.1) in
@@ -170,13 +174,16 @@ holds-more terms log longer tries units unit gave still shown shows store middle
           (λ last. subst (λ (u : IndexUnit). Fits terms longer u (shows c)) last.0
           (one-of terms longer tries unit still shows middle later claim c one last.1).fits)
           (both-snoc units claims unit other claim (Some c) i was.long at at-claim);
-      told = told-more gave shown shows units unit claims claim store.told was.long was.given (λ c given. (keeps c given).1)
-          was.told (λ c is-some. subst (λ (told : Option (IndexUnit → Version)). IfSome told (λ versions. shows c ≡ versions unit))
+      told = told-more gave shown shows units unit claims claim store.told was.long was.given
+          (λ c given. (keeps c given).1)
+          was.told (λ c is-some. subst (λ (told : Option (IndexUnit → Version)). IfSome told
+          (λ versions. shows c ≡ versions unit))
           was.told_stays (one-of terms longer tries unit still shows middle later claim c one is-some).is_told);
       asked = asked-more store.pages units unit store.asked middle.asked later.asked are is new was.asked
           (subst (λ (n : ℕ). TellsAt n unit raised middle.asked later.asked) was.pages asks.asked);
       lent = lent-more terms longer tries unit still shows middle later claims claim one was.lent;
-      losses = losses-more terms longer tries store.losses unit still shows middle later claims claim one asks.losses was.losses;
+      losses = losses-more terms longer tries store.losses unit still shows middle later claims claim one asks.losses
+          was.losses;
       never_fell = omega (arith, was.never_fell, asks.losses);
       pages = asks.pages ∙ was.pages;
       told_stays = asks.told ∙ was.told_stays;

@@ -1,5 +1,5 @@
 -- The least length, and how many units the base serves, with one more claim.
-use Rattle.std.proofs.Common.{◌≡◌, ℕ, zero, suc, slice_get, length, get_or, ◌+◌, ◌*◌, ◌≤◌, min, ◌∙◌, Bool, true, false, not, cond, List, [], ◌∷◌, ◌++◌, map, Option, Some, None, refl, sym, ap, arith, ⊎_elim, ◌⊎◌, subst}
+use Rattle.std.proofs.Common.{◌≡◌, ℕ, zero, suc, slice_get, ◌+◌, ◌≤◌, min, ◌∙◌, Bool, true, false, not, cond, List, [], ◌∷◌, ◌++◌, map, Option, Some, None, refl, sym, ap, arith, ⊎_elim, ◌⊎◌, subst}
 use Rattle.std.specs.Prelude.{is_some, is_none}
 use Rattle.std.specs.Option.{option_map}
 use Rattle.std.proofs.lemmas.Bool.{true≢false, false≢true}
@@ -58,7 +58,8 @@ pub least-claims : {Claim : Type 0} (shown : Claim → Version) (first : ℕ) (c
     least_length first (map (option_map shown) claims) ≤ first
 least-claims shown first claims = least-first first (map (option_map shown) claims)
 
-get-tail : {X : Type 0} (x : X) (xs : List X) (i : ℕ) (y : X) → slice_get (x ∷ xs) (suc i) ≡ Some y → slice_get xs i ≡ Some y
+get-tail : {X : Type 0} (x : X) (xs : List X) (i : ℕ) (y : X) → slice_get (x ∷ xs) (suc i) ≡ Some y
+    → slice_get xs i ≡ Some y
 get-tail x xs i y at =
     let within = slice_get_within (x ∷ xs) (suc i) y at in
     slice_get-get_or xs i y (omega (arith, within)) ∙ ap Some (get_or_from_slice_get (x ∷ xs) (suc i) y y at)

@@ -11,6 +11,7 @@ mod Sees
 mod Setting
 mod Shown
 mod Slots
+mod Standings
 mod States
 mod Walks
 mod Takings

@@ -1,6 +1,6 @@
 -- The tuples of pages of any age.
-use Rattle.std.proofs.Common.{◌≡◌, ℕ, ◌+◌, ◌*◌, ◌<◌, ◌≤◌, ◌∙◌, List, [], length, take, get_or, slice_get, Option, Some, None, IfSome, IfNone, Bor, refl, sym, ap, arith}
-use Rattle.std.specs.Option.{unwrap_or, option_and_then}
+use Rattle.std.proofs.Common.{◌≡◌, ℕ, ◌+◌, ◌*◌, ◌<◌, ◌≤◌, ◌∙◌, List, [], length, take, get_or, slice_get, Option, Some, None, IfSome, IfNone, Bor, sym, ap, arith}
+use Rattle.std.specs.Option.{option_and_then}
 use Rattle.std.proofs.lemmas.Option.{get_or_from_slice_get, slice_get_past}
 use Rattle.cubit_base.specs.Table.{Row}
 use Rattle.cubit_base.specs.Tuple.{TupleValue}
@@ -27,7 +27,8 @@ page-is held table page is = ap page_in is
 -- what was held of a page is what its rows had at some length from the least on
 pub held-tuple : (terms : Terms) (seen : List Delta) (least page pages at : ℕ)
     (held : Option (Bor (List (Option TupleValue)))) →
-    ((table : List Row) (row n i : ℕ) → i < n → slice_get (tuples_from table row n) i ≡ Some (tuple_at table (row + i))) →
+    ((table : List Row) (row n i : ℕ) → i < n → slice_get (tuples_from table row n) i ≡ Some
+    (tuple_at table (row + i))) →
     IfSome held (λ h. IsContentSince terms seen least (Page page) (content.Page h.now)) →
     IfNone held (pages ≤ page) → rows_after terms.base (take least seen) ≤ 3968 * pages → least ≤ length seen →
     at < 3968 → (len : ℕ) × (least ≤ len) × (len ≤ length seen)

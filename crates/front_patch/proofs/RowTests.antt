@@ -1,11 +1,11 @@
 -- Tests of rows.
-use Rattle.std.proofs.Common.{◌≡◌, ℕ, ◌+◌, Bool, List, [], ◌∷◌, Some, None, map, ap, ◌∙◌, sym, refl}
+use Rattle.std.proofs.Common.{◌≡◌, List, [], ◌∷◌, Some, None, map, ap, ◌∙◌, refl}
 use Rattle.cubit_base.specs.Table.{Row}
 use Rattle.column_bins.specs.declared.column.Column.{Column}
 use Rattle.column_bins.specs.declared.plan_type.Stretch.{Stretch}
-use Rattle.unit_version.specs.Content.{is_live, is_in_bins}
+use Rattle.unit_version.specs.Content.{is_in_bins}
 use Rattle.front_patch.specs.Bits.{passes, bits_by}
-use Rattle.front_patch.specs.declared.row_test.RowTest.TheVariants.{IsLive, IsInBins}
+use Rattle.front_patch.specs.declared.row_test.RowTest.TheVariants.{IsInBins}
 
 -- the test of bins is the definition of what a unit has
 passes-in_bins : (column : Column) (stretch : Stretch) (row : Row) →
@@ -19,6 +19,3 @@ bits-in_bins column stretch [] = refl
 bits-in_bins column stretch (row ∷ table) =
     ap (λ b. b ∷ bits_by (IsInBins column stretch) table) (passes-in_bins column stretch row)
     ∙ ap (λ bits. is_in_bins column stretch row ∷ bits) (bits-in_bins column stretch table)
-
-pub bits-live : (table : List Row) → bits_by IsLive table ≡ map is_live table
-bits-live table = refl

@@ -3,7 +3,7 @@ use Rattle.std.proofs.Common.{◌≡◌, ℕ, zero, suc, ◌+◌, ◌-◌, ◌<�
 use Rattle.std.proofs.lemmas.List.{get_or-append-add}
 use Rattle.std.proofs.lemmas.Option.{slice_get-get_or}
 use Rattle.unit_version.specs.declared.unit.Unit.{Unit as IndexUnit}
-use Rattle.unit_version.specs.declared.unit.Unit.TheVariants.{Live, Bin, Page}
+use Rattle.unit_version.specs.declared.unit.Unit.TheVariants.{Page}
 use Rattle.front_patch.specs.Planned.{run_of}
 
 -- one more at the end
@@ -20,7 +20,8 @@ run-snoc kind first (suc n) =
     (run-snoc kind (first + 1) n ∙ ap (λ m. run_of kind (first + 1) n ++ kind m ∷ []) (omega arith))
 
 -- none
-pub run-none : (kind : ℕ → IndexUnit) (first n : ℕ) (units : List IndexUnit) → n ≡ 0 → units ≡ units ++ run_of kind first n
+pub run-none : (kind : ℕ → IndexUnit) (first n : ℕ) (units : List IndexUnit) → n ≡ 0
+    → units ≡ units ++ run_of kind first n
 unfolding run_of
 run-none kind first n units none =
     sym (append-nil units) ∙ ap (λ m. units ++ run_of kind first m) (sym none)
@@ -44,7 +45,8 @@ pub get-run : (kind : ℕ → IndexUnit) (first n k : ℕ) (d : IndexUnit) → k
 unfolding run_of
 get-run kind first zero k d within = absurd (omega (arith, within))
 get-run kind first (suc n) zero d within = ap kind (omega arith)
-get-run kind first (suc n) (suc k) d within = get-run kind (first + 1) n k d (omega (arith, within)) ∙ ap kind (omega arith)
+get-run kind first (suc n) (suc k) d within = get-run kind (first + 1) n k d (omega (arith, within))
+    ∙ ap kind (omega arith)
 
 -- a page behind the bitvectors
 pub get-page : (before : List IndexUnit) (pages page : ℕ) → page < pages →
@@ -56,11 +58,15 @@ get-page before pages page within =
     let at : length all - pages + page ≡ length before + page = omega (arith, long, run) in
     ap (slice_get all) at
     ∙ slice_get-get_or all (length before + page) (Page page) (omega (arith, long, run, within))
-    ∙ ap Some (get_or-append-add before (run_of Page 0 pages) page (Page page) ∙ get-run Page 0 pages page (Page page) within
+    ∙ ap Some (get_or-append-add before (run_of Page 0 pages) page (Page page) ∙ get-run Page 0 pages page
+    (Page page) within
     ∙ ap Page (omega arith))
 
-pub contains-run : (kind : ℕ → IndexUnit) (first n k : ℕ) → first ≤ k → k < first + n → Contains (run_of kind first n) (kind k)
+pub contains-run : (kind : ℕ → IndexUnit) (first n k : ℕ) → first ≤ k → k < first + n
+    → Contains (run_of kind first n) (kind k)
 contains-run kind first n k low within =
-    let at : first + (k - first) ≡ k = omega (arith, low) in
-    (k - first, omega (arith, low, within, length-run kind first n),
-    get-run kind first n (k - first) (kind k) (omega (arith, low, within)) ∙ ap kind at)
+    let at : first + (k - first) ≡ k = omega (arith, low) in (
+      k - first,
+      omega (arith, low, within, length-run kind first n),
+      get-run kind first n (k - first) (kind k) (omega (arith, low, within)) ∙ ap kind at,
+    )

@@ -1,5 +1,5 @@
 -- Handles that may see more.
-use Rattle.std.proofs.Common.{◌≡◌, List, [], ◌++◌, refl, sym, ap, ◌∙◌, append_assoc, append-nil}
+use Rattle.std.proofs.Common.{List, [], ◌++◌, refl, sym, ap, ◌∙◌, append_assoc, append-nil}
 use Rattle.cubit_base.specs.declared.delta.Delta.{Delta}
 use Rattle.commit_log.specs.Handle.{Handle, Begins, SeesMore}
 

@@ -1,5 +1,5 @@
 -- What bitvectors of any age show of rows that did not change.
-use Rattle.std.proofs.Common.{◌≡◌, ℕ, zero, suc, ◌+◌, ◌-◌, ◌*◌, ◌<◌, ◌≤◌, ◌∙◌, ◌||◌, Bool, true, false, List, [], length, map, take, get_or, Contains, Option, Some, None, refl, sym, ap, subst, arith}
+use Rattle.std.proofs.Common.{◌≡◌, ℕ, ◌+◌, ◌-◌, ◌*◌, ◌<◌, ◌≤◌, ◌∙◌, ◌||◌, Bool, false, List, [], length, map, take, get_or, Option, Some, None, refl, sym, ap, arith}
 use Rattle.std.specs.Prelude.{nat_le, nat_lt, ◌&&◌}
 use Rattle.std.specs.Option.{unwrap_or}
 use Rattle.std.proofs.lemmas.Bool.Decides.{nat_tests}
@@ -10,10 +10,10 @@ use Rattle.cubit_base.specs.History.{after}
 use Rattle.cubit_base.specs.declared.delta.Delta.{Delta}
 use Rattle.commit_log.specs.Log.{Terms}
 use Rattle.column_bins.specs.Column.{tuple_bin}
-use Rattle.column_bins.specs.Plan.{in_stretch}
 use Rattle.column_bins.specs.declared.column.Column.{Column}
 use Rattle.column_bins.specs.declared.plan_type.Stretch.{Stretch}
-use Rattle.unit_version.specs.Content.{content_of, one_bin}
+use Rattle.unit_version.specs.Content.{content_of, is_in_bins, one_bin}
+use Rattle.unit_version.specs.Union.{bins_from}
 use Rattle.unit_version.specs.Unit.{IsUnit}
 use Rattle.unit_version.specs.declared.unit.Unit.{Unit as IndexUnit}
 use Rattle.unit_version.specs.declared.unit.Unit.TheVariants.{Live, Bin, Page, Keys}
@@ -24,7 +24,7 @@ use Rattle.front_patch.specs.Changed.{AreChanged, AreStates, IsSteady, ShowOther
 use Rattle.front_patch.specs.RowStates.{last_state}
 use Rattle.front_patch.specs.declared.row_state.RowState.{RowState}
 use Rattle.front_patch.specs.declared.row_test.RowTest.{RowTest}
-use Rattle.front_patch.specs.declared.row_test.RowTest.TheVariants.{IsLive, IsInBins}
+use Rattle.front_patch.specs.declared.row_test.RowTest.TheVariants.{IsInBins}
 use Rattle.front_patch.proofs.Groups.{row-passes}
 use Rattle.front_patch.proofs.RowTests.{bits-in_bins}
 
@@ -79,20 +79,8 @@ bin-steady terms seen least len row bin column bits since within is steady =
     ∙ row-passes (IsInBins column (one_bin bin)) old row
     ∙ ap (passes (IsInBins column (one_bin bin))) (steady len since within)
 
-in-more : (first bin n : ℕ) → first ≤ bin →
-    ((nat_le first n && nat_lt n bin) || (nat_le bin n && nat_lt n (bin + 1))) ≡ (nat_le first n && nat_lt n (bin + 1))
-in-more first bin n low = grind (arith, nat_tests)
-
 in-none : (first after n : ℕ) → after ≤ first → false ≡ (nat_le first n && nat_lt n after)
 in-none first after n none = grind (arith, nat_tests)
-
--- one bin more
-pub bins-more : (column : Column) (first bin : ℕ) (tuple : Option TupleValue) → first ≤ bin →
-    (passes (IsInBins column (record { first = first; after = bin })) tuple
-    || passes (IsInBins column (one_bin bin)) tuple)
-    ≡ passes (IsInBins column (record { first = first; after = bin + 1 })) tuple
-bins-more column first bin None low = refl
-bins-more column first bin (Some t) low = in-more first bin (tuple_bin column t) low
 
 -- no bin
 pub bins-none : (column : Column) (first after : ℕ) (tuple : Option TupleValue) → after ≤ first →
@@ -110,3 +98,26 @@ pub bins-end : (column : Column) (first bin after : ℕ) (tuple : Option TupleVa
     ≡ passes (IsInBins column (record { first = first; after = after })) tuple
 bins-end column first bin after None same = refl
 bins-end column first bin after (Some t) same = in-end first bin after (tuple_bin column t) same
+
+-- the row of a union of the base's bins, where it did not change since the base
+pub union-steady : (terms : Terms) (seen : List Delta) (least row : ℕ) (column : Column) (stretch : Stretch)
+    (bits : List Bool) → least ≡ 0 → bits ≡ map (is_in_bins column stretch) terms.base →
+    IsSteady terms seen least row → get_or bits row false
+    ≡ passes (IsInBins column stretch) (tuple_at (after terms.base seen) row)
+union-steady terms seen least row column stretch bits none is steady =
+    ap (λ (b : List Bool). get_or b row false) (is ∙ sym (bits-in_bins column stretch terms.base))
+    ∙ row-passes (IsInBins column stretch) terms.base row
+    ∙ ap (passes (IsInBins column stretch)) (steady 0 (omega (arith, none)) (omega arith))
+
+in-union : (first bin bins n : ℕ) → first ≤ bin →
+    ((nat_le first n && nat_lt n bin) || (nat_le bin n && nat_lt n (bin + bins)))
+    ≡ (nat_le first n && nat_lt n (bin + bins))
+in-union first bin bins n low = grind (arith, nat_tests)
+
+-- some bins more
+pub bins-more : (column : Column) (first bin bins : ℕ) (tuple : Option TupleValue) → first ≤ bin →
+    (passes (IsInBins column (record { first = first; after = bin })) tuple
+    || passes (IsInBins column (bins_from bin bins)) tuple)
+    ≡ passes (IsInBins column (record { first = first; after = bin + bins })) tuple
+bins-more column first bin bins None low = refl
+bins-more column first bin bins (Some t) low = in-union first bin bins (tuple_bin column t) low

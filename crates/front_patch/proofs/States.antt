@@ -1,10 +1,9 @@
 -- The last states of rows.
-use Rattle.std.proofs.Common.{◌≡◌, ◌≢◌, ℕ, ◌+◌, ◌-◌, ◌==◌, ◌<◌, ◌≤◌, ◌∙◌, Bool, true, false, eqb, List, [], ◌∷◌, ◌++◌, length, take, get_or, Option, Some, None, refl, sym, ap, subst, arith, inl, inr, if◌then◌else◌}
+use Rattle.std.proofs.Common.{◌≡◌, ℕ, ◌+◌, ◌-◌, ◌==◌, ◌≤◌, ◌∙◌, Bool, List, [], ◌∷◌, ◌++◌, Some, None, sym, ap, arith, inl, inr, if◌then◌else◌}
 use Rattle.std.proofs.lemmas.Bool.{cases_eq, cond-true, cond-false, eq-eqb, ne_eqb}
 use Rattle.std.proofs.lemmas.List.Sums.{fold-append}
-use Rattle.cubit_base.specs.Tuple.{TupleValue}
 use Rattle.front_patch.specs.Bits.{passes, shown_by}
-use Rattle.front_patch.specs.RowStates.{last_or, last_state}
+use Rattle.front_patch.specs.RowStates.{last_state}
 use Rattle.front_patch.specs.declared.row_state.RowState.{RowState}
 use Rattle.front_patch.specs.declared.row_test.RowTest.{RowTest}
 

@@ -1,12 +1,11 @@
 -- What taking comes to.
-use Rattle.std.proofs.Common.{◌≡◌, ℕ, ◌+◌, ◌-◌, ◌*◌, ◌<◌, ◌≤◌, ◌∙◌, Bool, true, false, List, [], ◌∷◌, ◌++◌, length, map, take, get_or, slice_get, All, if◌then◌else◌, Option, Some, None, IfSome, refl, sym, ap, subst, arith}
+use Rattle.std.proofs.Common.{◌≡◌, ℕ, ◌-◌, ◌*◌, ◌≤◌, ◌∙◌, Bool, true, false, List, length, map, get_or, if◌then◌else◌, Option, Some, None, IfSome, refl, ap, arith}
 use Rattle.std.specs.Option.{option_map}
-use Rattle.std.proofs.lemmas.Option.{slice_get_within, slice_get-get_or}
+use Rattle.std.proofs.lemmas.Option.{slice_get-get_or}
 use Rattle.std.proofs.lemmas.Bool.{cond-true}
 use Rattle.cubit_base.specs.declared.delta.Delta.{Delta}
-use Rattle.cubit_base.specs.History.{rows_after}
-use Rattle.commit_log.specs.Log.{Terms, Stands, IsLog, IsWhole}
-use Rattle.commit_log.specs.Handle.{Handle, Begins, SeesMore, with_look, mine}
+use Rattle.commit_log.specs.Log.{Terms, Stands, IsWhole}
+use Rattle.commit_log.specs.Handle.{Handle, Begins, SeesMore, with_look}
 use Rattle.commit_log.specs.declared.front.Front.{Front}
 use Rattle.column_bins.specs.declared.plan_type.Plan.{Plan}
 use Rattle.unit_version.specs.BaseValue.{BaseValue}
@@ -20,10 +19,10 @@ use Rattle.version_store.specs.Version.{Version, Fits}
 use Rattle.wah_words.specs.Place.{page_count}
 use Rattle.front_patch.specs.Holding.{HoldsEach, AreFitting, AreAtFronts}
 use Rattle.front_patch.specs.Planned.{FitsColumns, units_of}
-use Rattle.front_patch.specs.Taken.{TakenValue, Serves, IsTakenOver, AreGiven}
+use Rattle.front_patch.specs.Taken.{Serves}
 use Rattle.front_patch.specs.Takes.{Takes, SeesAndCounts, with_walks, pages_of, least_length, length_of}
-use Rattle.front_patch.proofs.Climbing.{climbs-units, climbs-length, all-units}
-use Rattle.front_patch.proofs.Least.{least-claims, least-at}
+use Rattle.front_patch.proofs.Climbing.{all-units}
+use Rattle.front_patch.proofs.Least.{least-at}
 use Rattle.front_patch.proofs.Sees.{begins-on}
 use Rattle.front_patch.proofs.Slots.{all-at}
 
@@ -80,7 +79,8 @@ serves-one terms log longer least unit shown (Some c) begins fits short =
 
 pub takes-all : {Claim : Type 0} (terms : Terms) (plan : Plan) (tries : ℕ) (gave : Claim → Type 0)
     (shown : Claim → Version) (base : BaseValue) (before looked held last : Handle) (store later : Store)
-    (first front : Front) (least pages : ℕ) (claims : List (Option Claim)) → FitsColumns plan → base.table ≡ terms.base →
+    (first front : Front) (least pages : ℕ) (claims : List (Option Claim)) → FitsColumns plan → base.table ≡
+    terms.base →
     pages ≡ pages_of plan first.rows → pages ≤ page_count base.row_room →
     SeesMore (with_look before) looked → IsWhole terms looked.seen first →
     SeesMore looked held →
@@ -96,7 +96,8 @@ pub takes-all : {Claim : Type 0} (terms : Terms) (plan : Plan) (tries : ℕ) (ga
       pages = pages;
       claims = claims;
     })
-takes-all terms plan tries gave shown base before looked held last store later first front least pages claims columns table pages-are room
+takes-all terms plan tries gave shown base before looked held last store later first front least pages claims columns
+    table pages-are room
     first-looks first-whole holds-more holds last-looks last-whole least-is stands =
     let units = units_of plan pages in
     record {

@@ -6,13 +6,9 @@ use Rattle.cubit_base.specs.Table.{Row}
 use Rattle.cubit_base.specs.Tuple.{TupleValue}
 use Rattle.column_bins.specs.Column.{tuple_bin}
 use Rattle.column_bins.specs.Plan.{in_stretch}
-use Rattle.column_bins.specs.declared.column.Column.{Column}
-use Rattle.column_bins.specs.declared.plan_type.Stretch.{Stretch}
 use Rattle.unit_version.specs.Content.{is_live, is_in_bins, one_bin}
 use Rattle.unit_version.specs.declared.unit.Unit.{Unit as IndexUnit}
 use Rattle.unit_version.specs.declared.unit.Unit.TheVariants.{Live, Bin, Page, Keys}
-use Rattle.front_patch.specs.RowStates.{last_state}
-use Rattle.front_patch.specs.declared.row_state.RowState.{RowState}
 use Rattle.front_patch.specs.declared.row_test.RowTest.{RowTest}
 use Rattle.front_patch.specs.declared.row_test.RowTest.TheVariants.{IsLive, IsInBins}
 

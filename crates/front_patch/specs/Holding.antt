@@ -1,5 +1,5 @@
 -- Units that are held one after another.
-use Rattle.std.specs.Prelude.{◌≡◌, ℕ, ◌+◌, ◌*◌, ◌≤◌, List, length, slice_get, All, Option, Some, None, IfSome}
+use Rattle.std.specs.Prelude.{◌≡◌, ℕ, ◌*◌, ◌≤◌, List, length, slice_get, All, Option, Some, None, IfSome}
 use Rattle.cubit_base.specs.declared.delta.Delta.{Delta}
 use Rattle.commit_log.specs.Log.{Terms, Stands}
 use Rattle.unit_version.specs.declared.unit.Unit.{Unit as IndexUnit}
@@ -28,14 +28,15 @@ AreAtFronts terms log shown claims =
 
 -- the units were held once each
 pub record HoldsEach {Claim : Type 0} (terms : Terms) (log : List Delta) (tries : ℕ) (units : List IndexUnit)
-    (gave : Claim → Type 0) (shown : Claim → Version) (store later : Store) (claims : List (Option Claim)) : Type 0 where
-  pub long : length claims ≡ length units
-  pub given : AreGiven gave claims
-  pub fitting : AreFitting terms log units shown claims
-  pub told : AreTold shown units claims store.told
-  pub asked : TellsEach store.pages units store.asked later.asked
-  pub lent : later.lent ≡ claim_count claims
-  pub losses : RoseBy (tries * fallback_count claims) store.losses later.losses
-  pub never_fell : store.losses ≤ later.losses
-  pub pages : later.pages ≡ store.pages
-  pub told_stays : later.told ≡ store.told
+    (gave : Claim → Type 0) (shown : Claim → Version) (store later : Store) (claims : List (Option Claim)) : Type 0
+  where
+    pub long : length claims ≡ length units
+    pub given : AreGiven gave claims
+    pub fitting : AreFitting terms log units shown claims
+    pub told : AreTold shown units claims store.told
+    pub asked : TellsEach store.pages units store.asked later.asked
+    pub lent : later.lent ≡ claim_count claims
+    pub losses : RoseBy (tries * fallback_count claims) store.losses later.losses
+    pub never_fell : store.losses ≤ later.losses
+    pub pages : later.pages ≡ store.pages
+    pub told_stays : later.told ≡ store.told

@@ -1,5 +1,5 @@
 -- The tuples of a page, some of whose rows were changed.
-use Rattle.std.specs.Prelude.{◌≡◌, ℕ, ◌+◌, List, Option, Some, None, slice_index_or}
+use Rattle.std.specs.Prelude.{ℕ, ◌+◌, Option, None, slice_index_or}
 use Rattle.std.specs.Option.{option_and_then, unwrap_or}
 use Rattle.cubit_base.specs.Tuple.{TupleValue}
 use Rattle.front_patch.specs.RowStates.{last_state}

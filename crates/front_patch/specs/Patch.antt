@@ -1,5 +1,5 @@
 -- What is known of the rows that were changed since the oldest version.
-use Rattle.std.specs.Prelude.{◌≡◌, ℕ, ◌*◌, ◌≤◌, true, List, length, map, take}
+use Rattle.std.specs.Prelude.{◌≡◌, ℕ, ◌*◌, ◌≤◌, true, List, map, take}
 use Rattle.cubit_base.specs.History.{rows_after}
 use Rattle.cubit_base.specs.declared.delta.Delta.{Delta}
 use Rattle.commit_log.specs.Log.{Terms, IsLog, IsWhole, between}

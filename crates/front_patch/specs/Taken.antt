@@ -1,5 +1,5 @@
 -- Versions of the units of a plan that a caller holds, seen at one front.
-use Rattle.std.specs.Prelude.{◌≡◌, ℕ, ◌+◌, ◌-◌, ◌*◌, ◌≤◌, ◌<◌, List, length, slice_get, count_by, is_some, is_none, All, Option, Some, None, IfSome}
+use Rattle.std.specs.Prelude.{◌≡◌, ℕ, ◌-◌, ◌≤◌, List, slice_get, count_by, is_some, is_none, All, Option, Some, None, IfSome}
 use Rattle.std.specs.Option.{option_map}
 use Rattle.cubit_base.specs.Table.{Row}
 use Rattle.cubit_base.specs.History.{after}

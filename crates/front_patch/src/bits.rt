@@ -8,7 +8,7 @@ ghost use Rattle.cubit_base.specs.Table.{Row};
 
 use crate::row_state::{RowState, states_among};
 use crate::row_test::RowTest;
-use fence_window::{BLOCK_GROUPS, Fenced, PAGE_GROUPS, PAGE_ROWS};
+use fence_window::{BLOCK_GROUPS, Fenced, PAGE_GROUPS, PAGE_ROWS, Plain};
 use wah_words::laws;
 
 // A group with this truth value in one place.
@@ -76,6 +76,17 @@ pub(crate) fn show_none(out: &mut [u32; BLOCK_GROUPS])
 
 /// Puts the groups of 32 pages of a bitvector into others, by or.
 pub(crate) fn or_pages(bits: &Fenced, first: u32, out: &mut [u32; BLOCK_GROUPS])
+    requires { All (λ group. group < 2 ^ 31) out.old }
+    ensures groups { All (λ group. group < 2 ^ 31) out.new }
+    ensures rows { (row : ℕ) → row < 126_976 →
+        row_in out.new row ≡ (row_in out.old row || slice_index_or bits.now (3_968 * first + row) false) }
+{
+    laws::groups();
+    bits.or_into(first, out);
+}
+
+/// The same of a plain bitvector.
+pub(crate) fn or_plain(bits: &Plain, first: u32, out: &mut [u32; BLOCK_GROUPS])
     requires { All (λ group. group < 2 ^ 31) out.old }
     ensures groups { All (λ group. group < 2 ^ 31) out.new }
     ensures rows { (row : ℕ) → row < 126_976 →

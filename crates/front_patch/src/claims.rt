@@ -1,14 +1,13 @@
 //! The claims of a plan's units.
-ghost use Rattle.std.specs.Prelude.{◌≡◌, ◌+◌, ◌-◌, ◌*◌, ◌≤◌, ◌<◌, ◌⊎◌, [], length, map, min, IfSome, All, AllPairs, vec_capacity};
+ghost use Rattle.std.specs.Prelude.{◌≡◌, ◌+◌, ◌-◌, ◌*◌, ◌≤◌, ◌<◌, ◌⊎◌, [], length, map, min, true, IfSome, All, AllPairs, vec_capacity};
 ghost use Rattle.std.specs.Option.{option_map};
 ghost use Rattle.commit_log.specs.Log.{Stands};
-ghost use Rattle.commit_log.specs.Handle.{SeesMore, Grows, mine};
+ghost use Rattle.commit_log.specs.Handle.{SeesMore};
 ghost use Rattle.unit_version.specs.Unit.{IsUnit};
 ghost use Rattle.version_store.specs.Store.{Asks, KeepsClaims};
-ghost use Rattle.version_store.specs.Version.{Fits};
 ghost use Rattle.wah_words.specs.Place.{page_count};
 ghost use Rattle.version_store.specs.Place.{place_of};
-ghost use Rattle.front_patch.specs.Since.{content_by};
+ghost use Rattle.front_patch.specs.Since.{ShowsBase, content_by};
 ghost use Rattle.front_patch.specs.Taken.{AreGiven, claim_count, fallback_count};
 ghost use Rattle.front_patch.specs.Takes.{least_length, length_of};
 ghost use Rattle.front_patch.specs.Holding.{HoldsEach, HoldsOne, AreAtFronts};
@@ -98,7 +97,8 @@ pub(crate) fn oldest<S: VersionStore>(
 // The front of what serves a unit.
 fn front_of<S: VersionStore>(log: &S::Log, store: &S, claim: &Option<S::Claim>) -> Front
     requires given { IfSome claim.now (S.gave store.now) }
-    requires stands { IfSome claim.now (λ c. Stands S.Log.terms (S.Log.handle log.now).seen (S.shown store.now c).front) }
+    requires stands { IfSome claim.now (λ c.
+        Stands S.Log.terms (S.Log.handle log.now).seen (S.shown store.now c).front) }
     ensures len { result.len ≡ length_of (option_map (S.shown store.now) claim.now) }
     ensures stands { Stands S.Log.terms (S.Log.handle log.now).seen result }
 {
@@ -133,6 +133,17 @@ pub(crate) fn content_by<'t, S: VersionStore>(
             None => base.content(unit),
         },
         None => base.content(unit),
+    }
+}
+
+/// Whether a unit is served by the base's content, either way.
+pub(crate) fn shows_base<S: VersionStore>(store: &S, claim: &Option<S::Claim>) -> bool
+    requires { IfSome claim.now (S.gave store.now) }
+    ensures { result ≡ true → ShowsBase (option_map (S.shown store.now) claim.now) }
+{
+    match claim {
+        Some(claim) => store.content(claim).is_none(),
+        None => true,
     }
 }
 

@@ -11,13 +11,13 @@
 //! plan's units (`units_of`). All calls but `take` take no memory.
 //!
 //! - `take`: the front is that of all that was seen in the end, and what was seen before is a prefix of it; how many
-//!   deltas it walks, how many steps it takes, how many claims are out, how many holds were given up and how many turns
-//!   that cost; each unit of the plan was held once, and no other (`Takes`). Without memory no claim stays out. Whatever
-//!   it answers, versions stay, and of the log's handle only what it has seen and counted changes.
-//! - `Taken::window`, `stretch`, `page`, `tuple`, `PageAtFront::get`: the groups and the tuples of the base's table after
-//!   all deltas up to the front, for versions of any ages; each tuple that is read counts one read.
+//!   deltas it walks, how many steps it takes at most, how many claims are out, how many holds were given up and how
+//!   many turns that cost; each unit of the plan was held once, and no other (`Takes`). Without memory no claim stays
+//!   out. Whatever it answers, versions stay, and of the log's handle only what it has seen and counted changes.
+//! - `Taken::window`, `stretch`, `page`, `tuple`, `PageAtFront::get`: the groups and the tuples of the base's table
+//!   after all deltas up to the front, for versions of any ages; each tuple that is read counts one read.
 //! - `Taken::front`, `patched`, `fallbacks`: what these words say. `close`: each claim was given back.
-//! - `laws`: which units a plan has, and what walks and holds count.
+//! - `laws`: which units a plan has, and how many.
 //!
 //! # Only tested
 //!
@@ -46,6 +46,7 @@ mod patches;
 mod planned;
 mod row_state;
 mod row_test;
+mod serving;
 mod taken;
 mod taking;
 mod walk;

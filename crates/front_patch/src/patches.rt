@@ -1,7 +1,6 @@
 //! What follows for versions that are patched. These functions do nothing: where one is called, its clauses are known.
-ghost use Rattle.std.specs.Prelude.{◌≡◌, ◌≤◌, ℕ, List, Option, None, Some, length, take};
+ghost use Rattle.std.specs.Prelude.{◌≡◌, ◌≤◌, ℕ, List, Option, length, take};
 ghost use Rattle.cubit_base.specs.History.{after, rows_after};
-ghost use Rattle.cubit_base.specs.LiveRow.{tuple_at};
 ghost use Rattle.cubit_base.specs.declared.delta.Delta.{Delta};
 ghost use Rattle.commit_log.specs.Log.{Terms, IsLog};
 ghost use Rattle.commit_log.specs.declared.front.Front.{Front};
@@ -10,8 +9,7 @@ ghost use Rattle.unit_version.specs.declared.unit.Unit.{Unit as IndexUnit};
 ghost use Rattle.version_store.specs.Version.{Version};
 ghost use Rattle.front_patch.specs.Changed.{AreChanged};
 ghost use Rattle.front_patch.specs.Patch.{IsPatch};
-ghost use Rattle.front_patch.specs.RowStates.{last_state};
-ghost use Rattle.front_patch.specs.Since.{IsContentSince, content_by};
+ghost use Rattle.front_patch.specs.Since.{IsContentSince, ShowsBase, content_by};
 ghost use Rattle.front_patch.specs.Taken.{Serves};
 ghost use Rattle.front_patch.specs.declared.row_state.RowState.{RowState};
 
@@ -22,6 +20,12 @@ pub(crate) fn contents_since()
 {
     version_store::laws::versions();
 }
+
+/// Where the base's content serves a unit, the least length is 0.
+pub(crate) fn base_serves()
+    ensures { (terms : Terms) (log : List Delta) (least : ℕ) (unit : IndexUnit) (version : Option Version) →
+        Serves terms log least unit version → ShowsBase version → least ≡ 0 }
+{}
 
 /// The rows that were changed have their last states, and each other row is as it was at any length from the least on.
 pub(crate) fn changed_rows()

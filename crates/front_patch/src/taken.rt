@@ -1,40 +1,32 @@
 //! Versions that are held, seen at one front.
-ghost use Rattle.std.specs.Prelude.{◌≡◌, ◌+◌, ◌*◌, ◌^◌, ◌||◌, ◌<◌, ◌≤◌, ℕ, true, map, slice_get, length, All, Contains, Some, IfSome, IfNone};
-ghost use Rattle.unit_version.specs.declared.content.Content.TheVariants.{Bits};
-ghost use Rattle.unit_version.specs.declared.content.Content.TheVariants as content;
-ghost use Rattle.unit_version.specs.declared.unit.Unit.TheVariants as unit;
+ghost use Rattle.std.specs.Prelude.{◌≡◌, ◌+◌, ◌*◌, ◌<◌, ◌≤◌, ℕ, true, map, length, Contains};
 ghost use Rattle.unit_version.specs.declared.unit.Unit.TheVariants.{Bin};
 ghost use Rattle.front_patch.specs.PageAtFront.{tuple_here};
 ghost use Rattle.cubit_base.specs.LiveRow.{tuple_at};
 ghost use Rattle.fence_window.specs.Window.{IsWindow};
-ghost use Rattle.column_bins.specs.Plan.{stretch_of};
-ghost use Rattle.unit_version.specs.Content.{is_in_bins, one_bin};
-ghost use Rattle.version_store.specs.Store.{Store};
-ghost use Rattle.front_patch.specs.Bits.{IsBits, bits_of, AreGroups, passes, row_in};
-ghost use Rattle.front_patch.specs.Changed.{IsSteady};
+ghost use Rattle.unit_version.specs.Content.{is_in_bins};
+ghost use Rattle.front_patch.specs.Bits.{IsBits, bits_of, AreGroups};
 ghost use Rattle.front_patch.specs.declared.row_test.RowTest.TheVariants.{IsInBins};
 ghost use Rattle.front_patch.specs.Planned.{HasBin, units_of};
 ghost use Rattle.front_patch.specs.Patch.{IsPatch};
-ghost use Rattle.front_patch.specs.Since.{IsContentSince};
 ghost use Rattle.front_patch.specs.Taken.{IsTakenOver, AreGiven, table_at, patched_by, claim_count, fallback_count};
-ghost use Rattle.front_patch.specs.Takes.{KeepsVersions};
 
-use crate::bits::{first_row, or_pages, set_changed, show_none, show_page};
-use crate::claims::{content_by, count_fallbacks, leave_each};
+use crate::bits::{first_row, set_changed, show_none, show_page};
+use crate::claims::{count_fallbacks, leave_each};
 use crate::page::PageAtFront;
-use crate::patches::{changed_rows, contents_since};
-use crate::planned::{page_place, place_in, test_of};
+use crate::patches::changed_rows;
+use crate::planned::test_of;
 use crate::row_state::{RowState, states_among};
 use crate::row_test::RowTest;
 use crate::taking::Patch;
 use column_bins::{Column, Plan, Stretch};
-use commit_log::{CommitLog, Front};
+use commit_log::Front;
 use cubit_base::{Steps, Tuple};
-use fence_window::{BLOCK_GROUPS, Fenced, PAGE_GROUPS, PAGE_ROWS};
+use fence_window::{BLOCK_GROUPS, PAGE_GROUPS, PAGE_ROWS};
 use std::marker::Model;
 use std::snapshot::Snapshot;
 use std::sync::ledger::Ledger;
-use unit_version::{Base, Content, Page, Unit, laws};
+use unit_version::{Base, Unit, laws};
 use version_store::VersionStore;
 
 /// Versions of the units of a plan that a caller holds, and the rows that were changed since the oldest of them. It has
@@ -172,8 +164,9 @@ impl<S: VersionStore> Taken<S> {
     {
         changed_rows();
         show_none(out);
-        for bin in stretch.first..stretch.after {
-            self.or_bin(store, base, column, bin, first, out);
+        let mut bin = stretch.first;
+        while bin < stretch.after {
+            bin += self.or_bins(store, base, column, bin, stretch.after, first, out);
         }
         set_changed(
             self.changed(),
@@ -239,76 +232,5 @@ impl<S: VersionStore> Taken<S> {
             changed: _,
         } = self;
         leave_each(store, claims);
-    }
-
-    // The last states of the rows that were changed since the oldest version.
-    fn changed(&self) -> &[RowState]
-        ensures { IsPatch S.Log.terms self.now.seen self.now.front self.now.least self.now.plan self.now.pages
-            result.now }
-    {
-        &self.changed
-    }
-
-    // What serves a unit.
-    fn content<'t>(&'t self, store: &'t S, base: &'t Base, unit: Unit, place: usize) -> &'t Content
-        requires over { IsTakenOver S.Log.terms (S.gave store.now) (S.shown store.now) base.now self.now }
-        requires place { slice_get (units_of self.now.plan self.now.pages) place ≡ Some unit }
-        ensures { IsContentSince S.Log.terms self.now.seen self.now.least unit result.now }
-    {
-        contents_since();
-        content_by(store, base, &self.claims[place], unit)
-    }
-
-    // The bitvector that serves a unit.
-    fn bits<'t>(&'t self, store: &'t S, base: &'t Base, unit: Unit) -> &'t Fenced
-        requires over { IsTakenOver S.Log.terms (S.gave store.now) (S.shown store.now) base.now self.now }
-        requires planned { Contains (units_of self.now.plan self.now.pages) unit }
-        requires bits { IsBits unit }
-        ensures { IsContentSince S.Log.terms self.now.seen self.now.least unit (Bits result.now) }
-    {
-        match self.content(store, base, unit, place_in(&self.units, unit)) {
-            Content::Bits(bits) => bits,
-            _ => unreachable!(),
-        }
-    }
-
-    // The page that serves the rows of a page of tuples; none where there were no such rows when it was taken.
-    fn held_page<'t>(&'t self, store: &'t S, base: &'t Base, page: u32) -> Option<&'t Page>
-        requires over { IsTakenOver S.Log.terms (S.gave store.now) (S.shown store.now) base.now self.now }
-        ensures some { IfSome result (λ held.
-            IsContentSince S.Log.terms self.now.seen self.now.least (unit.Page page) (content.Page held.now)) }
-        ensures none { IfNone result (self.now.pages ≤ page) }
-    {
-        if self.pages <= page {
-            return None;
-        }
-        let place = page_place(&self.plan, &self.units, self.pages, page);
-        match self.content(store, base, Unit::Page(page), place) {
-            Content::Page(page) => Some(page),
-            _ => unreachable!(),
-        }
-    }
-
-    // Puts the groups of 32 pages of a bin into others, by or: what each row that did not change since the oldest
-    // version has.
-    fn or_bin(
-        &self,
-        store: &S,
-        base: &Base,
-        column: Column,
-        bin: u8,
-        first: u32,
-        out: &mut [u32; BLOCK_GROUPS],
-    )
-        requires over { IsTakenOver S.Log.terms (S.gave store.now) (S.shown store.now) base.now self.now }
-        requires planned { Contains (units_of self.now.plan self.now.pages) (Bin column bin) }
-        requires groups { All (λ group. group < 2 ^ 31) out.old }
-        ensures groups { All (λ group. group < 2 ^ 31) out.new }
-        ensures rows { (row : ℕ) → row < 126_976 →
-            IsSteady S.Log.terms self.now.seen self.now.least (3_968 * first + row) →
-            row_in out.new row ≡ (row_in out.old row
-            || passes (IsInBins column (one_bin bin)) (tuple_at (table_at S.Log.terms self.now) (3_968 * first + row))) }
-    {
-        or_pages(self.bits(store, base, Unit::Bin(column, bin)), first, out);
     }
 }

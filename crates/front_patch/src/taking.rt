@@ -1,10 +1,8 @@
 //! Taking versions at one front.
-ghost use Rattle.std.specs.Prelude.{◌≡◌, ◌+◌, ◌-◌, ◌*◌, ◌≤◌, IfOk, OnErr, length, map, true, if◌then◌else◌};
+ghost use Rattle.std.specs.Prelude.{◌≡◌, ◌+◌, ◌-◌, ◌*◌, ◌≤◌, IfOk, OnErr, length, map};
 ghost use Rattle.std.specs.Option.{option_map};
-ghost use Rattle.cubit_base.specs.History.{rows_after};
 ghost use Rattle.commit_log.specs.Log.{IsLog, IsWhole, Stands, between};
 ghost use Rattle.commit_log.specs.Handle.{SeesMore, with_look};
-ghost use Rattle.wah_words.specs.Place.{page_count};
 ghost use Rattle.version_store.specs.Store.{IsStanding};
 ghost use Rattle.front_patch.specs.Holding.{HoldsEach, AreAtFronts};
 ghost use Rattle.front_patch.specs.Planned.{FitsColumns, units_of};

@@ -1,2 +1,3 @@
 mod ages;
+mod compared;
 mod plain;

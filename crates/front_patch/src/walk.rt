@@ -1,6 +1,6 @@
 //! The deltas between two fronts.
 ghost use Rattle.std.specs.Prelude.{◌≡◌, ◌+◌, ◌-◌, ◌*◌, ◌≤◌, IfOk, map};
-ghost use Rattle.commit_log.specs.Log.{Stands, IsLog, between};
+ghost use Rattle.commit_log.specs.Log.{Stands, between};
 ghost use Rattle.front_patch.specs.RowStates.{state_after};
 ghost use Rattle.front_patch.specs.Takes.{with_walks, AtMostWalks};
 

@@ -24,9 +24,11 @@
 #![tactic(auto)]
 
 mod checksum;
+mod patches;
 mod rounds;
 
 use cubit_io::{DiskFiles, read_all};
+use patches::{Patches, patched_times};
 use rounds::{Report, measured};
 use std::process::ExitCode;
 use std::rt::{Clock, Env};
@@ -52,6 +54,12 @@ fn main(rt: HostRuntime) -> io::Result<ExitCode> {
         eprintln!(rt; "no file {name}")?;
         return Ok(ExitCode::from(3));
     };
+    if let [_, _, option] = words.as_slice() {
+        if option.as_str() == "--patches" {
+            tell_patches(&rt, &patched_times(&rt, &bytes, rounds)?)?;
+            return Ok(ExitCode::SUCCESS);
+        }
+    }
     tell(&rt, &measured(&rt, &bytes, rounds)?, tells_times)?;
     Ok(ExitCode::SUCCESS)
 }
@@ -82,6 +90,23 @@ fn tell<R: Clock + Print + Eprint + AllocGlobal>(
             report.keys.subsec_nanos(),
             report.find.as_secs(),
             report.find.subsec_nanos()
+        )?;
+    }
+    Ok(())
+}
+
+// Tells how long it takes to carry units over deltas, in microseconds.
+fn tell_patches<R: Print>(rt: &R, times: &[Patches]) -> io::Result<()> {
+    for one in times {
+        println!(rt;
+            "deltas={} copy={} bin={} digest={} bits={} pages={} keys={}",
+            one.deltas,
+            one.copy.as_micros(),
+            one.bin.as_micros(),
+            one.digest.as_micros(),
+            one.bits.as_micros(),
+            one.pages.as_micros(),
+            one.keys.as_micros()
         )?;
     }
     Ok(())

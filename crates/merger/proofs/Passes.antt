@@ -46,7 +46,7 @@ tells-stay pages unit g (Some told) now same is =
 -- the count of units whose version has the front's length, and one unit more
 pub fresh-next : (pages n len : ℕ) (change : IndexUnit → Version → Version)
     (first before : Option (IndexUnit → Version)) (fresh more : ℕ) → n < unit_count pages
-        → TellsThrough pages n change first before →
+    → TellsThrough pages n change first before →
     IfSome first (λ told. fresh ≡ count_at len told pages n) →
     IfSome before (λ told. more ≡ fresh + (if (told (unit_at pages n)).front.len == len then 1 else 0)) →
     IfSome first (λ told. more ≡ count_at len told pages (n + 1))

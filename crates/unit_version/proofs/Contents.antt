@@ -22,8 +22,8 @@ slice_get-last (x ∷ xs) y = slice_get-last xs y
 
 -- one that is told for each place, with one more
 pub each-more : {X : Type 0} (of : ℕ → X) (n : ℕ) (xs : List X) → length xs ≡ n
-    → ((k : ℕ) → k < n → slice_get xs k ≡ Some (of k)) → (k : ℕ) → k < n + 1 → slice_get (xs ++ of n ∷ []) k
-    ≡ Some (of k)
+    → ((k : ℕ) → k < n → slice_get xs k ≡ Some (of k)) → (k : ℕ) → k < n + 1
+    → slice_get (xs ++ of n ∷ []) k ≡ Some (of k)
 each-more of n xs long each k low = elim (cases_eq k n) [
   | inl last ↦ rw (last, ← long) (slice_get-last xs (of (length xs)))
   | inr earlier ↦ slice_get-before xs (of n) k (omega (arith, long)) ∙ each k (omega arith)

@@ -26,13 +26,6 @@ slice_get-cases deltas d place e at =
           inr (here, same_Some d e (sym (slice_get-last deltas d) ∙ ap (slice_get (deltas ++ d ∷ [])) (sym here) ∙ at))
     ]
 
--- the tags without deltas, with a delta that has a number, and with one that has none
-pub AreTags-none : (number_of : Delta → Option ℕ) → AreTags number_of [] []
-AreTags-none number_of = record {
-  every = λ place n d at is. absurd cc;
-  only = λ tag has. absurd (omega (arith, has.1));
-}
-
 still : (number_of : Delta → Option ℕ) (deltas : List Delta) (d : Delta) (tags : List ℕ) → AreTags number_of deltas tags
     → (tag : ℕ) → Contains tags tag
     → (e : Delta) × (slice_get (deltas ++ d ∷ []) (tag % 2 ^ 32) ≡ Some e) × (number_of e ≡ Some (tag / 2 ^ 32))

@@ -1,3 +1,4 @@
+mod ColumnPages
 mod Contents
 mod Digests
 mod Entries

@@ -9,9 +9,14 @@ use Rattle.cubit_base.specs.declared.delta.Delta.{Delta}
 use Rattle.wah_words.specs.Rows.{IsToggled}
 use Rattle.unit_version.specs.Changes.{AreRowChanges, row_bit, turned_rows}
 use Rattle.unit_version.specs.declared.changes.row.RowChange.{RowChange}
+use Rattle.unit_version.specs.declared.content.Content.TheVariants as content
 use Rattle.unit_version.specs.declared.unit.Unit.{Unit as IndexUnit}
 use Rattle.unit_version.proofs.RowStates.{RowLaws}
 use Rattle.unit_version.proofs.TurnedRows.{IsToggled-after, rising-turned, rows-below, turned-All}
+
+-- contents of truth values that are equal
+pub same-bits : (a b : List Bool) → content.Bits a ≡ content.Bits b → a ≡ b
+same-bits a b is = cc
 
 module _ (laws : RowLaws) (limit : ℕ) (u : IndexUnit) (h : List Delta) (changes : List RowChange)
     (are : AreRowChanges h changes) (turned : List ℕ) (is : turned ≡ turned_rows u changes) where

@@ -27,14 +27,6 @@ tag_of-place a p q same = omega arith
 pub tag_of-parts : (tag n place : ℕ) → n ≡ tag / 2 ^ 32 → place ≡ tag % 2 ^ 32 → tag_of n place ≡ tag
 tag_of-parts tag n place number_is place_is = omega arith
 
--- no spans
-AreSpans-none : AreSpans [] []
-AreSpans-none = record {
-  rising = λ k low. absurd (omega arith);
-  each = λ k d low. absurd (omega arith);
-  every = λ tag has. absurd (omega (arith, has.1));
-}
-
 -- the number of a span
 number-at : (spans : List Span) (k : ℕ) (d : Span) → k < length spans
     → slice_index (map number spans) k ≡ (get_or spans k d).number

@@ -101,6 +101,12 @@ turns unit change = differs (row_bit unit change.before) (row_bit unit change.af
 abbrev pub turned_rows : IndexUnit → List RowChange → List ℕ
 turned_rows unit changes = map (λ c. c.row) (filter (turns unit) changes)
 
+-- the rows are those that deltas turn in the unit
+pub record AreTurnedIn (unit : IndexUnit) (deltas : List Delta) (turned : List ℕ) : Type 0 where
+  pub changes : List RowChange
+  pub changes_are : AreRowChanges deltas changes
+  pub turned_are : turned ≡ turned_rows unit changes
+
 -- a unit that holds truth values, and its place among these
 abbrev pub IsBitUnit : IndexUnit → Type 0
 IsBitUnit unit.Live = Unit {0}

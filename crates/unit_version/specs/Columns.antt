@@ -1,5 +1,5 @@
 -- The bins of all columns, and their unions.
-use Rattle.std.specs.Prelude.{ℕ, ◌≡◌, ◌*◌, Bool, List, length, map}
+use Rattle.std.specs.Prelude.{ℕ, ◌≡◌, ◌+◌, ◌*◌, ◌^◌, ◌<◌, Bool, List, [], length, map, slice_index_or}
 use Rattle.cubit_base.specs.Table.{Row}
 use Rattle.column_bins.specs.declared.column.Column.{Column}
 use Rattle.column_bins.specs.declared.column.Column.TheVariants.{Ship, Disc, Qty, Flag, Status}
@@ -19,6 +19,13 @@ pub record HasPages (table : List Row) (column : Column) (pages : ℕ) (w : Colu
   pub whole : length w.tile.items ≡ 144 * bin_count column
   pub bins : AreWritten (map (row_bin column) table) one_bin pages 0 (bin_count column) w.bins.items
   pub unions : AreWritten (map (row_bin column) table) (union_at column) pages 0 (union_count column) w.unions.items
+
+-- there is room for a page more of each bin
+pub record HasRoom (column : Column) (w : ColumnWriter) : Type 0 where
+  pub tile : length w.tile.items ≡ 144 * bin_count column
+  pub bins : length w.bins.items ≡ bin_count column
+  pub unions : length w.unions.items ≡ union_count column
+  pub few : (bin : ℕ) → length (slice_index_or w.bins.items bin []) + 128 < 2 ^ 30
 
 -- a row is live where it has either status
 abbrev pub live_rows : List Row → List Bool

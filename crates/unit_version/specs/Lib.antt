@@ -8,6 +8,7 @@ pub mod Inverse
 pub mod KeyedRow
 pub mod Merged
 pub mod Packed
+pub mod PageRows
 pub mod Patch
 pub mod RowBins
 pub mod Search

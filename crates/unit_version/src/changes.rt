@@ -1,12 +1,13 @@
 //! What a stretch of deltas changes, found once for all units.
-ghost use Rattle.std.specs.Prelude.{◌≡◌, IfOk};
+ghost use Rattle.std.specs.Prelude.{◌≡◌, ◌<◌, All, IfOk};
+ghost use Rattle.unit_version.specs.Changes.{AreKeyChanges, AreRowChanges, AreTurnedIn, IsBitUnit};
 
 mod keyed;
 mod row;
 mod span;
 mod turned;
 
-use crate::Memory;
+use crate::{Memory, Unit};
 use cubit_base::DeltaList;
 pub(crate) use keyed::KeyChange;
 use keyed::key_changes;
@@ -15,8 +16,7 @@ pub(crate) use row::{RowChange, first_from};
 use std::alloc::Global;
 use std::marker::Model;
 use std::snapshot::Snapshot;
-use turned::turned_rows;
-pub(crate) use turned::{LIVE_PLACE, first_place};
+use turned::{place_of, turned_rows};
 
 /// What deltas change, row by row, bin by bin and key by key; contracts see the deltas.
 #[derive(Drop)]
@@ -24,11 +24,11 @@ pub struct Changes {
     // The deltas, which take no bytes here: contracts alone read them.
     deltas: Snapshot<DeltaList>,
     // In rising order of rows.
-    pub(crate) rows: Vec<RowChange>,
+    rows: Vec<RowChange>,
     // For each unit of truth values the rows that are turned in it, rising.
-    pub(crate) turned: Vec<Vec<u32>>,
+    turned: Vec<Vec<u32>>,
     // For each key page the keys that change, in rising order of codes.
-    pub(crate) keys: Vec<Vec<KeyChange>>,
+    keys: Vec<Vec<KeyChange>>,
 }
 
 impl Model for Changes {
@@ -60,5 +60,29 @@ impl Changes {
             turned,
             keys,
         })
+    }
+
+    /// The rows that change, rising.
+    pub(crate) fn rows(&self) -> &[RowChange]
+        ensures { AreRowChanges self.now result.now }
+    {
+        &self.rows
+    }
+
+    /// The rows that are turned in a unit of truth values, rising.
+    pub(crate) fn turned_in(&self, unit: Unit) -> &[u32]
+        requires { IsBitUnit unit }
+        ensures { AreTurnedIn unit self.now result.now }
+    {
+        &self.turned[place_of(unit)]
+    }
+
+    /// The keys of a page that change, in rising order of codes.
+    pub(crate) fn keys_of(&self, rest: u8) -> &[KeyChange]
+        requires { rest < 64 }
+        ensures keys { AreKeyChanges rest self.now result.now }
+        ensures lines { All (λ d. d.key.line < 8) self.now }
+    {
+        &self.keys[usize::from(rest)]
     }
 }

@@ -2,7 +2,6 @@
 ghost use Rattle.std.specs.Prelude.{IfOk};
 ghost use Rattle.unit_version.specs.Patch.{IsSomeUnit, CanPatch, IsPatched};
 
-use crate::changes::{LIVE_PLACE, first_place};
 use crate::{Changes, Content, Memory, Unit};
 use cubit_base::DeltaList;
 use cubit_base::laws::rows;
@@ -68,19 +67,19 @@ pub fn patched_by(
     toggles();
     match (unit, content) {
         (Unit::Live, Content::Bits(bits)) => {
-            let turned = &changes.turned[LIVE_PLACE];
+            let turned = changes.turned_in(unit);
             Ok(Content::Bits(bits.toggled(alloc, turned, rows_after)?))
         }
-        (Unit::Bin(column, bin), Content::Bits(bits)) => {
-            let turned = &changes.turned[first_place(column) + usize::from(bin)];
+        (Unit::Bin(_, _), Content::Bits(bits)) => {
+            let turned = changes.turned_in(unit);
             Ok(Content::Bits(bits.toggled(alloc, turned, rows_after)?))
         }
         (Unit::Page(page), Content::Page(tuples)) => {
-            let tuples = tuples.patched(alloc, page, &changes.rows)?;
+            let tuples = tuples.patched(alloc, page, changes.rows())?;
             Ok(Content::Page(tuples))
         }
         (Unit::Keys(rest), Content::Keys(keys)) => {
-            let changed = &changes.keys[usize::from(rest)];
+            let changed = changes.keys_of(rest);
             Ok(Content::Keys(keys.patched(alloc, rest, changed)?))
         }
         _ => unreachable!(),

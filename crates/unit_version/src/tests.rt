@@ -74,26 +74,32 @@ fn table_of(alloc: Global, rows: u32) -> Result<Table, Memory>
 // The base of such a table, with room for one row more.
 fn base_of(alloc: Global, rows: u32) -> Result<(Base, Table), Memory>
     requires { rows ≤ 5_000 }
-    ensures { IfOk result (λ made. length made.1 ≤ 5_000) }
+    ensures { IfOk result (λ made. HasDistinctLiveKeys made.1 × (length made.1 ≤ 5_000)) }
 {
     let table = table_of(alloc, rows)?;
     let base = Base::build(alloc, table_of(alloc, rows)?, rows + 1)?;
     Ok((base, table))
 }
 
-// What the key page finds.
-fn found(base: &Base, rest: u8, key: &Key) -> Option<(u32, Tuple)>
-    requires { rest < 64 }
-{
-    match base.content(Unit::Keys(rest)) {
+// What a key page finds.
+fn found_in(content: &Content, key: &Key) -> Option<(u32, Tuple)> {
+    match content {
         Content::Keys(keys) => keys.find(key),
         _ => None,
     }
 }
 
+// What the base's key page finds.
+fn found(base: &Base, rest: u8, key: &Key) -> Option<(u32, Tuple)>
+    requires { rest < 64 }
+{
+    found_in(base.content(Unit::Keys(rest)), key)
+}
+
 #[test]
 fn keys_are_found(rt: HostRuntime) -> Result<(), Fail> {
     let (base, table) = base_of(rt.alloc(), 1_500)?;
+    let pages = key_pages(rt.alloc(), &table)?;
     assert_eq!(rt; (table.len(), base.rows()), (1_500, 1_500));
     for row in 0..table.len() {
         let (key, tuple) = table.row(row).unwrap();
@@ -103,6 +109,7 @@ fn keys_are_found(rt: HostRuntime) -> Result<(), Fail> {
             None => None,
         };
         assert_eq!(rt; found(&base, rest, &key), live, "of row {row}");
+        assert_eq!(rt; found_in(&pages[usize::from(rest)], &key), live, "alone");
         assert_eq!(rt; found(&base, (rest + 1) % 64, &key), None, "elsewhere");
     }
     for order in [1, 64, 1_001, 4_294_967_295] {

@@ -1,11 +1,11 @@
 //! Plain tables: deltas drawn for them, and what bitvectors and pages of them are, row by row.
-ghost use Rattle.std.specs.Prelude.{◌≡◌, ◌≢◌, ◌⊎◌, ◌+◌, ◌*◌, ◌<◌, ◌≤◌, ℕ, All, IsTrue, IfOk, IfSome, length, slice_get};
+ghost use Rattle.std.specs.Prelude.{◌≡◌, ◌≢◌, ◌⊎◌, ◌+◌, ◌*◌, ◌<◌, ◌≤◌, All, IsTrue, IfOk, IfSome, length, slice_get};
 ghost use Rattle.cubit_base.specs.LiveRow.{HasDistinctLiveKeys};
 ghost use Rattle.cubit_base.specs.Delta.{applied, IsLawful};
 ghost use Rattle.front_patch.specs.Bits.{bits_by};
 
-use crate::row_test::RowTest;
 use crate::Memory;
+use crate::row_test::RowTest;
 use cubit_base::{Delta, Flag, Key, LineStatus, Table, Tuple, laws};
 use fence_window::PAGE_GROUPS;
 use std::alloc::Global;
@@ -119,7 +119,12 @@ fn insert_of(table: &Table, author: u8, limit: u32, n: u32) -> Option<Delta>
 }
 
 // The table after a delta.
-pub(crate) fn table_after(alloc: Global, table: &Table, delta: &Delta, limit: u32) -> Result<Table, Memory>
+pub(crate) fn table_after(
+    alloc: Global,
+    table: &Table,
+    delta: &Delta,
+    limit: u32,
+) -> Result<Table, Memory>
     requires lawful { IsLawful limit table.now delta.now }
     requires limit { limit ≤ 16_777_216 }
     ensures { IfOk result (λ after. after ≡ applied table.now delta.now) }

@@ -8,6 +8,7 @@ ghost use Rattle.unit_version.specs.Tile.{AreFirstPages};
 ghost use Rattle.unit_version.specs.declared.unit.Unit.TheVariants as unit;
 
 use super::months::months_of_days;
+use super::rows::{no_rows, read_page};
 use super::tile::union_page;
 use super::writers::{ColumnUnits, ColumnWriter, empty_writer, finished, write_page};
 use crate::{Content, Memory};
@@ -58,8 +59,7 @@ pub(crate) fn column_contents(alloc: Global, table: &Table) -> Result<Columns, M
     })
 }
 
-// All pages of all columns. The rows of a page are near for all columns but the first, and the live rows are those of
-// either status.
+// All pages of all columns; the live rows are those of either status.
 fn written(alloc: Global, table: &Table) -> Result<Writers, Memory>
     ensures { IfOk result (HaveAllPages table.now (page_count (length table.now))) }
 {
@@ -72,12 +72,14 @@ fn written(alloc: Global, table: &Table) -> Result<Writers, Memory>
     let mut qty = empty_writer(alloc, Column::Qty, pages)?;
     let mut flag = empty_writer(alloc, Column::Flag, pages)?;
     let mut status = empty_writer(alloc, Column::Status, pages)?;
+    let mut rows = no_rows();
     for page in 0..pages {
-        write_page(&mut ship, table, Column::Ship, &months, page)?;
-        write_page(&mut disc, table, Column::Disc, &months, page)?;
-        write_page(&mut qty, table, Column::Qty, &months, page)?;
-        write_page(&mut flag, table, Column::Flag, &months, page)?;
-        write_page(&mut status, table, Column::Status, &months, page)?;
+        read_page(&mut rows, table, &months, page);
+        write_page(&mut ship, Column::Ship, &rows.ship)?;
+        write_page(&mut disc, Column::Disc, &rows.disc)?;
+        write_page(&mut qty, Column::Qty, &rows.qty)?;
+        write_page(&mut flag, Column::Flag, &rows.flag)?;
+        write_page(&mut status, Column::Status, &rows.status)?;
         live.push_page(&union_page(&status.tile, STATUSES))?;
     }
     Ok(Writers {

@@ -4,7 +4,7 @@ ghost use Rattle.cubit_base.specs.Key.{KeyValue};
 ghost use Rattle.cubit_base.specs.declared.table.TheConstants.{ROW_LIMIT};
 ghost use Rattle.column_bins.specs.Column.{tuple_bin};
 ghost use Rattle.unit_version.specs.RowBins.{AreMonths, row_bin};
-ghost use Rattle.unit_version.specs.Tile.{ArePageBins};
+ghost use Rattle.unit_version.specs.PageRows.{ArePageRows};
 ghost use Rattle.wah_words.specs.Place.{page_count};
 
 use super::months::Months;
@@ -20,37 +20,47 @@ const _: () = prove!(NO_BIN == 255);
 /// The bins of the rows of a page.
 pub(crate) type PageBins = [u8; PAGE_ROWS as usize];
 
-/// Reads the bins of the rows of a page. Each column has a loop of its own, in which nothing is chosen.
-pub(crate) fn read_bins(
-    bins: &mut PageBins,
-    table: &Table,
-    column: Column,
-    months: &Months,
-    page: u32,
-)
-    requires page { page ≤ page_count ROW_LIMIT }
-    requires months { AreMonths months.now }
-    ensures { ArePageBins (map (row_bin column) table.now) page bins.new }
-{
-    match column {
-        Column::Ship => read_column(bins, table, Column::Ship, months, page),
-        Column::Disc => read_column(bins, table, Column::Disc, months, page),
-        Column::Qty => read_column(bins, table, Column::Qty, months, page),
-        Column::Flag => read_column(bins, table, Column::Flag, months, page),
-        Column::Status => read_column(bins, table, Column::Status, months, page),
+/// The bins of the rows of a page in each column.
+#[derive(Drop)]
+pub(crate) struct PageRows {
+    pub(crate) ship: PageBins,
+    pub(crate) disc: PageBins,
+    pub(crate) qty: PageBins,
+    pub(crate) flag: PageBins,
+    pub(crate) status: PageBins,
+}
+
+/// The bins of no rows.
+pub(crate) fn no_rows() -> PageRows {
+    PageRows {
+        ship: [NO_BIN; PAGE_ROWS as usize],
+        disc: [NO_BIN; PAGE_ROWS as usize],
+        qty: [NO_BIN; PAGE_ROWS as usize],
+        flag: [NO_BIN; PAGE_ROWS as usize],
+        status: [NO_BIN; PAGE_ROWS as usize],
     }
 }
 
-// The same, for a column that the caller writes out.
-#[inline(always)]
-fn read_column(bins: &mut PageBins, table: &Table, column: Column, months: &Months, page: u32)
+/// Reads the bins of the rows of a page. Each row is read once, before any of its bins is written.
+pub(crate) fn read_page(rows: &mut PageRows, table: &Table, months: &Months, page: u32)
     requires page { page ≤ page_count ROW_LIMIT }
     requires months { AreMonths months.now }
-    ensures { ArePageBins (map (row_bin column) table.now) page bins.new }
+    ensures { ArePageRows table.now page rows.new }
 {
     let first = PAGE_ROWS * page;
     for at in 0..PAGE_ROWS {
-        bins[at as usize] = bin_at(table, column, months, first + at);
+        let row = first + at;
+        let ship = bin_at(table, Column::Ship, months, row);
+        let disc = bin_at(table, Column::Disc, months, row);
+        let qty = bin_at(table, Column::Qty, months, row);
+        let flag = bin_at(table, Column::Flag, months, row);
+        let status = bin_at(table, Column::Status, months, row);
+        let place = at as usize;
+        rows.ship[place] = ship;
+        rows.disc[place] = disc;
+        rows.qty[place] = qty;
+        rows.flag[place] = flag;
+        rows.status[place] = status;
     }
 }
 

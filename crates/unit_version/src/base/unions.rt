@@ -57,9 +57,8 @@ fn bins_from(first: u8, bins: u8) -> Stretch
 
 /// Which of a column's unions is of so many bins from the first on, or none where it is not kept.
 pub(crate) fn union_of(column: Column, first: u8, bins: u8) -> Option<usize>
-    ensures { MatchOption result (is_kept column first bins ≡ false)
-        (λ n. (is_kept column first bins ≡ true) × (n < union_count column)
-        × (union_at column n ≡ bins_from first bins)) }
+    ensures { MatchOption result (is_kept column first bins ≡ false) (λ n. (is_kept column first bins ≡ true)
+        × (n < union_count column) × (union_at column n ≡ bins_from first bins)) }
 {
     let (earlier, count) = match (column, bins) {
         (Column::Ship, 12) => (0, 7),

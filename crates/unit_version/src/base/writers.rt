@@ -1,24 +1,22 @@
 //! The bins of a column and their unions, in the making and made.
-ghost use Rattle.std.specs.Prelude.{◌≡◌, ◌<◌, ◌≤◌, ◌+◌, [], length, map, replicate, IfOk, OnOk, List};
+ghost use Rattle.std.specs.Prelude.{ℕ, ◌≡◌, ◌≤◌, ◌+◌, [], length, map, replicate, IfOk, OnOk, List};
 ghost use Rattle.cubit_base.specs.Table.{Row};
-ghost use Rattle.cubit_base.specs.declared.table.TheConstants.{ROW_LIMIT};
 ghost use Rattle.column_bins.specs.Column.{bin_count};
-ghost use Rattle.unit_version.specs.Columns.{AreOfColumn, HasPages};
+ghost use Rattle.unit_version.specs.Columns.{AreOfColumn, HasPages, HasRoom};
 ghost use Rattle.unit_version.specs.Content.{AreContents, one_bin};
-ghost use Rattle.unit_version.specs.RowBins.{AreMonths, row_bin};
-ghost use Rattle.unit_version.specs.Tile.{AreWritten, HasPage};
+ghost use Rattle.unit_version.specs.RowBins.{row_bin};
+ghost use Rattle.unit_version.specs.Tile.{ArePageBins, AreWritten, HasPage};
 ghost use Rattle.unit_version.specs.Union.{AreUnions, union_at, union_count};
 ghost use Rattle.wah_words.specs.Place.{page_count};
 ghost use Rattle.unit_version.specs.declared.unit.Unit.TheVariants as unit;
 
-use super::months::Months;
-use super::rows::{NO_BIN, read_bins};
+use super::rows::PageBins;
 use super::tile::{BIN_NUMBERS, fill, push_bins};
 use super::unions::{UnionWriter, push_unions, union_count};
 use crate::{Content, Memory};
 use column_bins::Column;
 use cubit_base::Table;
-use fence_window::{Fenced, PAGE_ROWS, PageWriter, Plain};
+use fence_window::{Fenced, PageWriter, Plain};
 use std::alloc::Global;
 use wah_words::{laws, pages_of_list};
 
@@ -89,24 +87,19 @@ fn empty_unions(alloc: Global, count: usize, pages: u32) -> Result<Vec<UnionWrit
     Ok(lists)
 }
 
-/// Writes the next page of each bin and each union. The tile then has it.
+/// Writes the next page of each bin and each union, by the bins of its rows. The tile then has it.
 pub(crate) fn write_page(
     writer: &mut ColumnWriter,
-    table: &Table,
     column: Column,
-    months: &Months,
-    page: u32,
+    bins: &PageBins,
 ) -> Result<(), Memory>
-    requires page { page < page_count ROW_LIMIT }
-    requires months { AreMonths months.now }
-    requires before { HasPages table.now column page writer.old }
-    ensures { OnOk result (HasPages table.now column (page + 1) writer.new
-        × HasPage (map (row_bin column) table.now) page writer.new.tile.items) }
+    requires { HasRoom column writer.old }
+    ensures { OnOk result ((table : List Row) (page : ℕ) → ArePageBins (map (row_bin column) table) page bins.now
+        → HasPages table column page writer.old → HasPages table column (page + 1) writer.new
+        × HasPage (map (row_bin column) table) page writer.new.tile.items) }
 {
     laws::groups();
-    let mut bins = [NO_BIN; PAGE_ROWS as usize];
-    read_bins(&mut bins, table, column, months, page);
-    fill(&mut writer.tile, &bins);
+    fill(&mut writer.tile, bins);
     push_bins(&mut writer.bins, &writer.tile)?;
     push_unions(&mut writer.unions, column, &writer.tile)?;
     Ok(())

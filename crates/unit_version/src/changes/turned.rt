@@ -4,12 +4,12 @@ ghost use Rattle.std.specs.declared.alloc.Global.{Global};
 ghost use Rattle.std.specs.declared.vec.Vec.{Vec};
 ghost use Rattle.column_bins.specs.Column.{bin_count};
 ghost use Rattle.wah_words.specs.Rows.{differs};
-ghost use Rattle.unit_version.specs.Changes.{AreTurned, first_place};
+ghost use Rattle.unit_version.specs.Changes.{AreTurned, IsBitUnit, bit_place, first_place};
 ghost use Rattle.unit_version.specs.Turned.{IsPlace, ArePushed};
 ghost use Rattle.unit_version.specs.declared.changes.row.RowChange.{RowChange};
 
 use super::row::RowChange;
-use crate::Memory;
+use crate::{Memory, Unit};
 use column_bins::{Column, bin_of};
 use cubit_base::Tuple;
 use std::alloc::Global;
@@ -19,8 +19,8 @@ const LISTS: usize = 152;
 
 const _: () = prove!(LISTS == 152);
 
-/// The place of the list of the live rows.
-pub(crate) const LIVE_PLACE: usize = 0;
+// The place of the list of the live rows.
+const LIVE_PLACE: usize = 0;
 
 const _: () = prove!(LIVE_PLACE == 0);
 
@@ -141,8 +141,21 @@ fn bin_place(column: Column, tuple: &Option<Tuple>) -> usize
     }
 }
 
-/// The place of a column's first bin.
-pub(crate) fn first_place(column: Column) -> usize
+/// The place of the list of a unit.
+pub(crate) fn place_of(unit: Unit) -> usize
+    requires { IsBitUnit unit }
+    ensures value { result ≡ bit_place unit }
+    ensures within { result < 151 }
+{
+    match unit {
+        Unit::Live => LIVE_PLACE,
+        Unit::Bin(column, bin) => first_place(column) + usize::from(bin),
+        Unit::Page(_) | Unit::Keys(_) => unreachable!(),
+    }
+}
+
+// The place of a column's first bin.
+fn first_place(column: Column) -> usize
     ensures { result ≡ first_place column }
 {
     match column {

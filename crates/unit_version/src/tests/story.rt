@@ -192,6 +192,88 @@ fn all_follow<N: Ledger, R: Abort + AllocGlobal>(
     Ok(())
 }
 
+// The unit is carried on from one stretch to the next.
+fn goes_on<N: Ledger, R: Abort + AllocGlobal>(
+    rt: &R,
+    unit: Unit,
+    base: &Base,
+    first: &DeltaList,
+    between: &Base,
+    second: &DeltaList,
+    then: &Base,
+    rows: &Rows,
+    reads: &mut Steps<N>,
+) -> Result<(), Memory>
+    requires unit { IsUnit (page_count base.now.row_room) unit }
+    requires some { IsSomeUnit unit }
+    requires room { then.now.row_room ≡ base.now.row_room }
+    requires lawful { IsHistory 16_777_216 base.now.table first.now }
+    requires middle { between.now.table ≡ after base.now.table first.now }
+    requires on { IsHistory 16_777_216 between.now.table second.now }
+    requires end { then.now.table ≡ after between.now.table second.now }
+{
+    laws::histories();
+    let made = carried(
+        rt.alloc(),
+        base,
+        unit,
+        first,
+        between.rows(),
+        second,
+        then.rows(),
+    )?;
+    is_same(rt, &made, then.content(unit), rows, reads);
+    Ok(())
+}
+
+// Row 0 gets another tuple and its own again; a key comes, goes, and comes back in a new row.
+fn told(alloc: Global, rows: &mut Rows) -> Result<DeltaList, Memory>
+    requires { length rows.old.items ≤ 5_000 }
+    ensures lawful { IfOk result (λ deltas. IsHistory 16_777_216 rows.old.items deltas) }
+    ensures then { IfOk result (λ deltas. rows.new.items ≡ after rows.old.items deltas) }
+    ensures few { IfOk result (λ deltas. length rows.new.items ≤ length rows.old.items + 5) }
+{
+    let mut deltas = DeltaList::new(alloc);
+    let key = key_of(6_999);
+    let new = rows.len() as u32;
+    for n in 0..5 {
+        let delta = match n {
+            0 => change(rows, 0, tuple_of(2_007)),
+            1 => change(rows, 0, tuple_of(0)),
+            3 => change(rows, new, None),
+            _ => match tuple_of(n) {
+                Some(tuple) => insert(rows, key, tuple),
+                None => None,
+            },
+        };
+        follow(rows, &mut deltas, delta)?;
+    }
+    Ok(deltas)
+}
+
+// The same over a table of so many rows.
+fn there_and_back<N: Ledger, R: Abort + AllocGlobal>(
+    rt: &R,
+    rows: u32,
+    blank: Blank,
+) -> Result<(), Memory>
+    requires rows { rows ≤ 5_000 }
+    requires name { blank.name ≡ N.name }
+    requires parts { blank.parts ≡ N.parts }
+    requires some { 0 < N.parts }
+{
+    laws::live_rows();
+    let alloc = rt.alloc();
+    let reads = &mut Steps::<N>::make(blank);
+    let table = table_of(alloc, rows)?;
+    let mut rows = rows_of(alloc, &table)?;
+    let deltas = told(alloc, &mut rows)?;
+    assert_eq!(rt; deltas.len(), 5);
+    let then = Base::build(alloc, table_from(alloc, &rows)?, 16_000)?;
+    let base = Base::build(alloc, table, 16_000)?;
+    all_follow(rt, &base, &deltas, &then, &rows, reads)
+}
+
 // Two stretches of a history from a table of so many rows, of which so many deltas each are drawn.
 fn story<N: Ledger, R: Abort + AllocGlobal>(
     rt: &R,
@@ -217,30 +299,66 @@ fn story<N: Ledger, R: Abort + AllocGlobal>(
     let then = Base::build(alloc, table_from(alloc, &rows)?, 16_000)?;
     let base = Base::build(alloc, table, 16_000)?;
     all_follow(rt, &base, &first, &between, &rows, reads)?;
-    for unit in [
+    goes_on(
+        rt,
         Unit::Live,
+        &base,
+        &first,
+        &between,
+        &second,
+        &then,
+        &rows,
+        reads,
+    )?;
+    goes_on(
+        rt,
         Unit::Bin(Column::Qty, 6),
+        &base,
+        &first,
+        &between,
+        &second,
+        &then,
+        &rows,
+        reads,
+    )?;
+    goes_on(
+        rt,
         Unit::Page(1),
+        &base,
+        &first,
+        &between,
+        &second,
+        &then,
+        &rows,
+        reads,
+    )?;
+    goes_on(
+        rt,
         Unit::Keys(63),
-    ] {
-        let made = carried(
-            alloc,
-            &base,
-            unit,
-            &first,
-            between.rows(),
-            &second,
-            then.rows(),
-        )?;
-        is_same(rt, &made, then.content(unit), &rows, reads);
-    }
+        &base,
+        &first,
+        &between,
+        &second,
+        &then,
+        &rows,
+        reads,
+    )?;
     Ok(())
 }
 
 #[test]
 fn units_follow_drawn_histories(rt: HostRuntime) -> Result<(), Fail> {
-    for (rows, count) in [(4_400, 500), (0, 60), (3_967, 0)] {
+    for (rows, count) in [(4_400, 500), (0, 60), (3_965, 200), (3_967, 0)] {
         story::<Brand, _>(&rt, rows, count, Blank::new(1))?;
+    }
+    Ok(())
+}
+
+// Over one page, and over the end of one.
+#[test]
+fn rows_and_keys_that_come_back(rt: HostRuntime) -> Result<(), Fail> {
+    for rows in [3, 3_967] {
+        there_and_back::<Brand, _>(&rt, rows, Blank::new(1))?;
     }
     Ok(())
 }

@@ -1,4 +1,4 @@
-use Rattle.std.proofs.Common.{◌≡◌, ◌+◌, ◌*◌, ◌<◌, ◌≤◌, ◌∙◌, ap, sym, arith, length}
+use Rattle.std.proofs.Common.{◌+◌, ◌*◌, ◌∙◌, ap, arith}
 use Rattle.front_patch.specs.Bits.{row_in, shown_by}
 use Rattle.front_patch.specs.RowStates.{last_state}
 use Rattle.front_patch.proofs.Groups.{rows-shown}
@@ -13,4 +13,5 @@ returns c table =
     (λ row within. c.states_among.ensures.same (3968 * c.args.page + row) (omega (arith, c.first_row-first.ensures))
     (omega (arith, c.first_row-first.ensures, within)))
     (λ row. c.set_states.ensures.rows row
-    ∙ ap (λ n. shown_by c.args.test (last_state (n + row) part) (row_in c.args.groups.now row)) c.first_row-first.ensures)
+    ∙ ap (λ n. shown_by c.args.test (last_state (n + row) part) (row_in c.args.groups.now row))
+    c.first_row-first.ensures)

@@ -1,4 +1,4 @@
-use Rattle.std.proofs.Common.{◌≡◌, ◌+◌, ◌-◌, ◌∙◌, ◌++◌, [], ◌∷◌, ap, sym, arith, take, get_or}
+use Rattle.std.proofs.Common.{◌+◌, ◌-◌, ◌∙◌, ◌++◌, [], ◌∷◌, ap, sym, take}
 use Rattle.std.proofs.lemmas.List.{take_more, take_all}
 use Rattle.front_patch.specs.Bits.{row_in, shown_by}
 use Rattle.front_patch.specs.RowStates.{last_state}

@@ -1,4 +1,4 @@
-use Rattle.std.proofs.Common.{◌≡◌, ◌+◌, ◌≤◌, ◌∙◌, ◌++◌, [], ◌∷◌, ap, sym, arith, take}
+use Rattle.std.proofs.Common.{◌+◌, ◌∙◌, ◌++◌, [], ◌∷◌, ap, sym, arith, take}
 use Rattle.std.proofs.lemmas.List.{take_more, take_all}
 use Rattle.front_patch.specs.Taken.{fallback_count}
 use Rattle.front_patch.proofs.Least.{fallbacks-more, byte-le}

@@ -1,8 +1,7 @@
-use Rattle.std.proofs.Common.{◌≡◌, ◌+◌, ◌*◌, ◌≤◌, ◌∙◌, ◌++◌, [], ◌∷◌, All, ap, sym, subst, arith, refl, take, get_or, length, List, Option}
-use Rattle.std.proofs.lemmas.List.{take_more, take_all}
+use Rattle.std.proofs.Common.{◌+◌, ◌*◌, ◌++◌, [], ◌∷◌, sym, subst, arith, take, get_or}
+use Rattle.std.proofs.lemmas.List.{take_more}
 use Rattle.std.proofs.lemmas.List.Elements.{All-take}
 use Rattle.unit_version.specs.Unit.{IsUnit}
-use Rattle.unit_version.specs.declared.unit.Unit.{Unit as IndexUnit}
 use Rattle.unit_version.specs.declared.unit.Unit.TheVariants.{Live}
 use Rattle.front_patch.specs.Holding.{HoldsEach}
 use Rattle.front_patch.proofs.Holding.{holds-none, holds-more, holds-same, not-before, steps-more}
@@ -14,7 +13,8 @@ loop-i-init g c =
     let log = g.S.Log.CommitLog in
     let store = g.S.VersionStore in
     record {
-      held = subst (λ claims. HoldsEach log.terms (log.handle c.args.log.now).seen c.args.tries [] (store.gave c.args.store.now)
+      held = subst (λ claims. HoldsEach log.terms (log.handle c.args.log.now).seen c.args.tries []
+          (store.gave c.args.store.now)
           (store.shown c.args.store.now) (store.store c.args.store.now) (store.store c.args.store.now) claims)
           (sym c.requires.none)
           (holds-none log.terms (log.handle c.args.log.now).seen c.args.tries (store.gave c.args.store.now)

@@ -1,4 +1,4 @@
-use Rattle.std.proofs.Common.{◌≡◌, ◌+◌, ◌*◌, ◌≤◌, take, length}
+use Rattle.std.proofs.Common.{◌+◌, ◌*◌, ◌≤◌, take, length}
 use Rattle.std.specs.Prelude.{vec_capacity}
 use Rattle.commit_log.specs.Handle.{SeesMore}
 use Rattle.front_patch.specs.Holding.{HoldsEach}

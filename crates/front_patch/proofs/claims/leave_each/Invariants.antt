@@ -1,5 +1,4 @@
 use Rattle.std.proofs.Common.{◌≡◌, length}
-use Rattle.version_store.specs.Store.{Store}
 use Rattle.front_patch.specs.Taken.{AreGiven, claim_count}
 use Rattle.front_patch.proofs.claims.leave_each.Given as goal
 

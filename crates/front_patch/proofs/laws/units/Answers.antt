@@ -1,6 +1,6 @@
-use Rattle.std.proofs.Common.{◌≡◌, ℕ, ◌+◌, ◌-◌, ◌<◌, ◌≤◌, ◌∙◌, Bool, true, false, List, [], ◌∷◌, ◌++◌, length, Contains, Option, Some, None, refl, sym, ap, subst, arith, if◌then◌else◌, length-append}
+use Rattle.std.proofs.Common.{◌≡◌, ℕ, ◌-◌, Bool, true, false, List, [], ◌∷◌, ◌++◌, length, Contains, Option, Some, None, refl, sym, subst, arith, if◌then◌else◌, length-append}
 use Rattle.std.proofs.lemmas.Bool.{false≢true}
-use Rattle.std.proofs.lemmas.List.Elements.{Contains-append_left, Contains-append_right, Contains-push}
+use Rattle.std.proofs.lemmas.List.Elements.{Contains-append_left, Contains-append_right}
 use Rattle.column_bins.specs.Plan.{stretch_of}
 use Rattle.column_bins.specs.declared.column.Column.{Column}
 use Rattle.column_bins.specs.declared.column.Column.TheVariants.{Ship, Disc, Qty, Flag, Status}
@@ -8,7 +8,7 @@ use Rattle.column_bins.specs.declared.plan_type.Plan.{Plan}
 use Rattle.column_bins.specs.declared.plan_type.Stretch.{Stretch}
 use Rattle.unit_version.specs.declared.unit.Unit.{Unit as IndexUnit}
 use Rattle.unit_version.specs.declared.unit.Unit.TheVariants.{Live, Bin, Page}
-use Rattle.front_patch.specs.Planned.{HasBin, run_of, bins_of, is_open, bitvectors_of, units_of, width_of, planned_count}
+use Rattle.front_patch.specs.Planned.{HasBin, run_of, bins_of, is_open, bitvectors_of, units_of, width_of}
 use Rattle.front_patch.proofs.Runs.{contains-run, length-run}
 use Rattle.front_patch.proofs.laws.units.Goals as goal
 
@@ -88,9 +88,19 @@ returns-clause-pages c plan pages page within =
 
 pub returns-clause-count : goal.returns-clause-count
 returns-clause-count c plan pages =
-    omega (arith, length-live (is_open plan), length-append (lives plan) (bins_of Ship plan.ship),
-    length-append (ships plan) (bins_of Disc plan.disc), length-append (discs plan) (bins_of Qty plan.qty),
-    length-append (qtys plan) (bins_of Flag plan.flag), length-append (flags plan) (bins_of Status plan.status),
-    length-append (bitvectors_of plan) (run_of Page 0 pages), length-run Page 0 pages,
-    length-bins Ship plan.ship, length-bins Disc plan.disc, length-bins Qty plan.qty, length-bins Flag plan.flag,
-    length-bins Status plan.status)
+    omega (
+      arith,
+      length-live (is_open plan),
+      length-append (lives plan) (bins_of Ship plan.ship),
+      length-append (ships plan) (bins_of Disc plan.disc),
+      length-append (discs plan) (bins_of Qty plan.qty),
+      length-append (qtys plan) (bins_of Flag plan.flag),
+      length-append (flags plan) (bins_of Status plan.status),
+      length-append (bitvectors_of plan) (run_of Page 0 pages),
+      length-run Page 0 pages,
+      length-bins Ship plan.ship,
+      length-bins Disc plan.disc,
+      length-bins Qty plan.qty,
+      length-bins Flag plan.flag,
+      length-bins Status plan.status,
+    )

@@ -1,4 +1,4 @@
-use Rattle.std.proofs.Common.{◌≡◌, ℕ, ◌≤◌, List, take, Option, Some, None, refl, arith}
+use Rattle.std.proofs.Common.{◌≡◌, ℕ, List, take, Option, Some, None, refl, arith}
 use Rattle.std.specs.Option.{unwrap_or}
 use Rattle.cubit_base.specs.History.{after}
 use Rattle.cubit_base.specs.declared.delta.Delta.{Delta}

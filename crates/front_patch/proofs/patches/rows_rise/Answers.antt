@@ -1,4 +1,4 @@
-use Rattle.std.proofs.Common.{◌≡◌, ℕ, ◌+◌, ◌≤◌, List, take, length, ap, sym, cond, arith}
+use Rattle.std.proofs.Common.{take, ap, cond, arith}
 use Rattle.std.specs.Prelude.{count_by}
 use Rattle.std.proofs.lemmas.List.{take-take}
 use Rattle.std.proofs.lemmas.List.Sums.{sum_by-take-le}
@@ -10,8 +10,10 @@ pub returns : goal.returns
 returns c terms log n m is order =
     let limit = terms.limits.row_limit in
     let history = is.history in
-    let some = c.rows.ensures.count limit terms.base (take n log) (c.histories.ensures.front limit terms.base log n history) in
-    let more = c.rows.ensures.count limit terms.base (take m log) (c.histories.ensures.front limit terms.base log m history) in
+    let some = c.rows.ensures.count limit terms.base (take n log) (c.histories.ensures.front limit terms.base log n
+    history) in
+    let more = c.rows.ensures.count limit terms.base (take m log) (c.histories.ensures.front limit terms.base log m
+    history) in
     omega (
       arith,
       some,

@@ -1,4 +1,4 @@
-use Rattle.std.proofs.Common.{◌≡◌, ◌+◌, ◌-◌, ◌∙◌, List, ap, arith, length, length-append, slice_get}
+use Rattle.std.proofs.Common.{◌+◌, ◌-◌, ◌∙◌, List, ap, arith, length, length-append, slice_get}
 use Rattle.unit_version.specs.declared.unit.Unit.{Unit as IndexUnit}
 use Rattle.unit_version.specs.declared.unit.Unit.TheVariants.{Page}
 use Rattle.front_patch.specs.Planned.{bitvectors_of, run_of, units_of}

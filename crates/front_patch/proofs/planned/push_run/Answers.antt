@@ -1,4 +1,4 @@
-use Rattle.std.proofs.Common.{◌≡◌, ◌+◌, ◌-◌, ◌++◌, [], ◌∷◌, refl, arith, ap, ◌∙◌}
+use Rattle.std.proofs.Common.{◌≡◌, ◌+◌, ◌-◌, ◌++◌, arith, ap, ◌∙◌}
 use Rattle.unit_version.specs.declared.unit.Unit.TheVariants as unit
 use Rattle.front_patch.specs.Planned.{run_of}
 use Rattle.front_patch.proofs.Runs.{run-none, run-more}

@@ -1,4 +1,4 @@
-use Rattle.std.proofs.Common.{◌≡◌, ◌+◌, ◌<◌, ◌≤◌, ◌∙◌, List, All, AllPairs, length, ap, sym, subst, arith}
+use Rattle.std.proofs.Common.{◌+◌, ◌<◌, ◌≤◌, ◌∙◌, List, All, AllPairs, length, sym, subst, arith}
 use Rattle.unit_version.specs.Unit.{IsUnit}
 use Rattle.unit_version.specs.declared.unit.Unit.{Unit as IndexUnit}
 use Rattle.version_store.specs.Place.{place_of}
@@ -10,7 +10,8 @@ pub hold_each-requires-clause-units : goal.hold_each-requires-clause-units
 hold_each-requires-clause-units g c =
     subst (λ (units : List IndexUnit). All (IsUnit (g.S.VersionStore.store c.args.store.now).pages) units)
     (sym (c.deref.ensures.value ∙ c.in_ok-units.ensures))
-    (all-units (g.S.VersionStore.store c.args.store.now).pages c.args.plan.now c.args.pages c.requires.columns c.requires.pages)
+    (all-units (g.S.VersionStore.store c.args.store.now).pages c.args.plan.now c.args.pages c.requires.columns
+    c.requires.pages)
 
 pub hold_each-requires-clause-rising : goal.hold_each-requires-clause-rising
 hold_each-requires-clause-rising g c =

@@ -1,5 +1,4 @@
-use Rattle.std.proofs.Common.{◌≡◌, ℕ, ◌+◌, ◌-◌, ◌≤◌, ◌∙◌, List, Option, length, map, take, ap, sym, subst, arith}
-use Rattle.wah_words.specs.Place.{page_count}
+use Rattle.std.proofs.Common.{◌+◌, ◌∙◌, map, ap, sym, subst, arith}
 use Rattle.std.specs.Option.{option_map}
 use Rattle.commit_log.specs.Log.{Stands}
 use Rattle.commit_log.specs.Handle.{Begins}
@@ -26,7 +25,8 @@ patch_since-requires-clause-stand g c =
 
 -- the first front is still one of the log
 stands-last : (g : Over) (c : After-patch_since g) →
-    Begins (g.S.Log.CommitLog.handle c.hold_planned.new.log).seen (g.S.Log.CommitLog.handle c.patch_since.new.log).seen →
+    Begins (g.S.Log.CommitLog.handle c.hold_planned.new.log).seen (g.S.Log.CommitLog.handle
+    c.patch_since.new.log).seen →
     Stands g.S.Log.CommitLog.terms (g.S.Log.CommitLog.handle c.patch_since.new.log).seen c.front-first.result
 stands-last g c begins =
     let handle = g.S.Log.CommitLog.handle in
@@ -55,7 +55,8 @@ taken_of-requires-clause-patch g c =
       columns = c.requires.plan;
       few = omega (arith, pages, few-pages c.args.plan.now first.rows, rows, most);
       paged = λ is.
-          let at = stands-last g (goal.at.taken_of-requires-clause-patch g c).After-patch_since c.in-Ok.ensures.only.grows.begins in
+          let at = stands-last g (goal.at.taken_of-requires-clause-patch g c).After-patch_since
+          c.in-Ok.ensures.only.grows.begins in
           omega (
             arith,
             pages,

@@ -36,7 +36,8 @@ loop-entry-preserved g c =
     let moved = walk.moved in
     let seen : (handle c.loop-entry.log).seen ≡ log = ap (λ (h : Handle). h.seen) before.walked in
     let delta = c.in-Some.entry.delta in
-    let here : slice_get log at ≡ Some delta = subst (λ (l : List Delta). slice_get l at ≡ Some delta) seen walk.is_entry.delta in
+    let here : slice_get log at ≡ Some delta = subst (λ (l : List Delta). slice_get l at ≡ Some delta) seen
+    walk.is_entry.delta in
     record {
       after = omega (arith, moved, before.after);
       before = omega (arith, moved, walk.before);

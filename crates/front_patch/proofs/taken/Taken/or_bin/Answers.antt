@@ -1,4 +1,4 @@
-use Rattle.std.proofs.Common.{◌≡◌, ◌+◌, ◌*◌, ◌∙◌, ◌||◌, ap}
+use Rattle.std.proofs.Common.{◌+◌, ◌*◌, ◌∙◌, ◌||◌, ap}
 use Rattle.front_patch.specs.Bits.{row_in}
 use Rattle.front_patch.proofs.Shown.{bin-steady}
 use Rattle.front_patch.proofs.taken.Taken.or_bin.Goals as goal

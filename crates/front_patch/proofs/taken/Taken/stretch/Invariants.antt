@@ -10,6 +10,7 @@ abbrev pub invariant-loop-bin : goal.invariant-loop-bin
 invariant-loop-bin g l =
     let terms = g.S.Log.CommitLog.terms in
     record {
+      low : l.stretch.first ≤ l.bin;
       bin : l.bin - l.stretch.first ≤ l.stretch.after - l.stretch.first;
       long : length l.out ≡ 4096;
       groups : All (λ group. group < 2 ^ 31) l.out;
@@ -17,3 +18,6 @@ invariant-loop-bin g l =
           row_in l.out row ≡ passes (IsInBins l.column (record { first = l.stretch.first; after = l.bin }))
           (tuple_at (after terms.base l.self.seen) (3968 * l.first + row));
     }
+
+abbrev pub decreases-loop-bin : goal.decreases-loop-bin
+decreases-loop-bin g l = l.stretch.after - l.bin

@@ -1,4 +1,4 @@
-use Rattle.std.proofs.Common.{◌≡◌, ◌+◌, ◌*◌, ◌<◌, ◌∙◌, ap, sym, arith, take}
+use Rattle.std.proofs.Common.{◌+◌, ◌*◌, ◌∙◌, ap, sym, arith, take}
 use Rattle.wah_words.specs.Group.{group_at}
 use Rattle.wah_words.specs.Place.{page_count}
 use Rattle.cubit_base.specs.History.{after}

@@ -10,8 +10,8 @@ loop-n-preserved c =
     let of = union_at c.args.column in
     let n = c.loop-n.n in
     let part = c.union_page.result in
-    let own : (bins : List ℕ) (page : ℕ) → HasPage bins page c.args.tile.now
-    → IsPageOf (rows_in (of n) bins) page part =
+    let own : (rows : List ℕ) (page : ℕ) → HasPage rows page c.args.tile.now
+    → IsPageOf (rows_in (of n) rows) page part =
     rw c.union_at.ensures.value at c.union_page.ensures in
     let same : get_or c.loop-n.unions n c.index-unions-n.result ≡ get_or c.loop-n.unions n [] =
     get_or_default c.loop-n.unions n c.index-unions-n.result [] (omega arith) in
