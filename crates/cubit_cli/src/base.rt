@@ -1,5 +1,6 @@
 //! The base file: read whole, and judged.
-ghost use Rattle.std.specs.Prelude.{◌≡◌, ◌≤◌};
+ghost use Rattle.std.specs.Prelude.{◌≡◌, ◌≤◌, IfOk};
+ghost use Rattle.cubit_base.specs.Table.{HasDistinctKeys};
 ghost use Rattle.cubit_cli.specs.Base.{line_detail, lines_refusal, too_long, base_table, Judges};
 ghost use Rattle.cubit_cli.specs.World.{files_state};
 ghost use Rattle.tbl_text.specs.Base.{TooMany, Line, Twice};
@@ -18,6 +19,7 @@ pub(crate) fn base_table<'a, F: Files>(
 ) -> Result<Table, Stop<'a>>
     ensures judged { Judges base_table (files_state (F.held files.old) (F.faults files.old))
         (files_state (F.held files.new) (F.faults files.new)) name.now result }
+    ensures distinct { IfOk result HasDistinctKeys }
     ensures held { F.held files.new ≡ F.held files.old }
     ensures counted { F.faults files.old ≤ F.faults files.new }
 {

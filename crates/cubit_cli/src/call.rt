@@ -1,14 +1,19 @@
 //! The top call.
-ghost use Rattle.std.specs.Prelude.{◌≡◌, ◌≤◌, map, string_bytes};
+ghost use Rattle.std.specs.Prelude.{◌≡◌, ◌≤◌, map, string_bytes, IfOk};
+ghost use Rattle.cubit_base.specs.Answer.{answer};
+ghost use Rattle.cubit_base.specs.Table.{HasDistinctKeys};
+ghost use Rattle.query_report.specs.Answer.{answer_text};
 ghost use Rattle.cubit_cli.specs.Call.{Ends, IsCall};
 ghost use Rattle.cubit_cli.specs.Words.{query_of};
 ghost use Rattle.cubit_cli.specs.World.{files_state, sink_state};
 
 use crate::Status;
 use crate::base::base_table;
+use crate::index::totals;
 use crate::words::read;
+use cubit_base::{Predicate, Table};
 use cubit_io::{Files, Sink, write_all};
-use query_report::{Stop, answer_line};
+use query_report::{Memory, Stop, answer_line};
 use std::alloc::Global;
 
 /// Does what the words ask for, which are those after the program's name: `q6 BASE YEAR DISCOUNT QUANTITY` writes the
@@ -64,11 +69,20 @@ fn answer<'a, F: Files, O: Sink>(
         return Err(Stop::Usage);
     };
     let table = base_table(alloc, files, query.base)?;
-    let Ok(line) = answer_line(alloc, &table.totals(&query.predicate())) else {
+    let Ok(line) = reply(alloc, table, &query.predicate()) else {
         return Err(Stop::Memory);
     };
     match write_all(out, &line) {
         Ok(()) => Ok(()),
         Err(_) => Err(Stop::SinkFault),
     }
+}
+
+// The line of the answer to a predicate over a table.
+fn reply(alloc: Global, table: Table, predicate: &Predicate) -> Result<Vec<u8>, Memory>
+    requires { HasDistinctKeys table }
+    ensures { IfOk result (λ line. line.items ≡ answer_text (answer table predicate.now).count
+        (answer table predicate.now).sum) }
+{
+    answer_line(alloc, &totals(alloc, table, predicate)?)
 }

@@ -36,6 +36,7 @@
 
 mod base;
 mod call;
+mod index;
 pub mod laws;
 mod query;
 mod status;
