@@ -1,6 +1,11 @@
 //! Worked rows, other line ends and a long base.
 use super::{A, ROW_1, WORDS, answers};
+use cubit_base::{Predicate, ROW_LIMIT};
+use query_report::answer_line;
+use std::alloc::{AllocError, Global};
+use std::process::Abort;
 use std::test::Fail;
+use tbl_text::base_of;
 
 // The lines of A without their last bars, each with CR LF.
 const A_CR: &[u8] =
@@ -58,5 +63,51 @@ fn a_long_base(rt: HostRuntime) -> Result<(), Fail> {
         &WORDS,
         "front=0 count=10000 sum=8467292.0000\n",
     )?;
+    Ok(())
+}
+
+// The queries and their words.
+const QUERIES: [((u16, u8, u8), [&str; 3]); 12] = [
+    ((1992, 0, 1), ["1992", "0.00", "1"]),
+    ((1993, 10, 51), ["1993", "0.10", "51"]),
+    ((1994, 6, 24), ["1994", "0.06", "24"]),
+    ((1994, 5, 10), ["1994", "0.05", "10"]),
+    ((1994, 4, 11), ["1994", "0.04", "11"]),
+    ((1994, 3, 51), ["1994", "0.03", "51"]),
+    ((1995, 5, 51), ["1995", "0.05", "51"]),
+    ((1996, 3, 51), ["1996", "0.03", "51"]),
+    ((1996, 9, 36), ["1996", "0.09", "36"]),
+    ((1996, 9, 37), ["1996", "0.09", "37"]),
+    ((1996, 10, 8), ["1996", "0.10", "8"]),
+    ((1998, 5, 51), ["1998", "0.05", "51"]),
+];
+
+// The call answers each query as a pass over the rows of the table does.
+fn answers_as_the_rows(rt: &impl Abort, alloc: Global, base: &[u8]) -> Result<(), AllocError> {
+    for ((year, disc, qty), [a, b, c]) in QUERIES {
+        let Ok(table) = base_of(alloc, base, ROW_LIMIT) else {
+            panic!(rt; "no table");
+        };
+        let line = answer_line(alloc, &table.totals(&Predicate::q6(year, disc, qty)))?;
+        let line = String::from_utf8_lossy(alloc, &line)?;
+        answers(rt, alloc, base, &["q6", "A", a, b, c], &line)?;
+    }
+    Ok(())
+}
+
+// One row of each order, over a page's last row but one.
+#[test]
+fn as_the_rows(rt: HostRuntime) -> Result<(), Fail> {
+    let alloc = rt.alloc();
+    let mut base = String::new(alloc);
+    for order in 1..3_968u32 {
+        writeln!(
+            &mut base,
+            "{order}|1|1|1|10|100.00|0.05|0.01|A|F|1994-06-15|1994-06-15|1994-06-15|x|AIR|x|"
+        )?;
+    }
+    for base in [A, base.as_bytes(), b""] {
+        answers_as_the_rows(&rt, alloc, base)?;
+    }
     Ok(())
 }
