@@ -73,15 +73,15 @@ count-stretch (suc n) s =
     let rest = count-stretch n s in
     elim (cases_lt n s.first) [
       | inl before ↦
-          let out = cond-false (in_stretch s n) 1 0 (and_left (nat_le s.first n) (nat_lt n s.after) (lt-leb s.first n before)) in
+          let out = cond-false {A = ℕ} (in_stretch s n) 1 0 (and_left (nat_le s.first n) (nat_lt n s.after) (lt-leb s.first n before)) in
           omega (arith, out, rest, before)
       | inr from ↦ elim (cases_lt n s.after) [
         | inl within ↦
-            let here = cond-true (in_stretch s n) 1 0
+            let here = cond-true {A = ℕ} (in_stretch s n) 1 0
             (and_from (nat_le s.first n) (nat_lt n s.after) (le-leb s.first n from) (lt-ltb n s.after within)) in
             omega (arith, here, rest, from, within)
         | inr behind ↦
-            let out = cond-false (in_stretch s n) 1 0
+            let out = cond-false {A = ℕ} (in_stretch s n) 1 0
             (and_right (nat_le s.first n) (nat_lt n s.after) (le-ltb n s.after behind)) in
             omega (arith, out, rest, from, behind)
       ]
@@ -120,7 +120,7 @@ planned-few p sum plan first rows is less =
     let width = λ (column : Column). width-met column (range_of column p) (stretch_of column plan) (is.stretches column) in
     omega (
       arith,
-      ap (λ b. if b then 1 else 0) (open-plan p plan is.stretches),
+      ap {B = ℕ} (λ b. if b then 1 else 0) (open-plan p plan is.stretches),
       width Ship,
       width Disc,
       width Qty,

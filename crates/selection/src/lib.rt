@@ -15,3 +15,6 @@ mod scan;
 pub use answer::{CountAnswer, RowsAnswer, SumAnswer};
 pub use commit_log::Memory;
 pub use query::{count, rows, sum};
+
+#[cfg(test)]
+mod tests;

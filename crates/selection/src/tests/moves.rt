@@ -42,6 +42,8 @@ pub(crate) fn append<L: CommitLog, N: Ledger, R: Abort + AllocGlobal>(
 {
     commit_log::laws::handles();
     commit_log::laws::appends();
+    // From here on it is known that what was seen is a log.
+    log.start();
     let limit = log.limits().row_limit;
     let Some(delta) = delta else {
         return Ok((front, table));
@@ -55,10 +57,89 @@ pub(crate) fn append<L: CommitLog, N: Ledger, R: Abort + AllocGlobal>(
     }
 }
 
-// Whether a row is live and has this bin.
-fn has_bin(column: Column, bin: u8, tuple: &Option<Tuple>) -> bool {
-    match tuple {
-        Some(tuple) => bin_of(column, tuple) == bin,
-        None => false,
+// Whether a row is live, and its bin lies in a stretch.
+fn has_bin(column: Column, stretch: Stretch, tuple: &Option<Tuple>) -> bool
+    ensures { (key : KeyValue) → result ≡ is_in_bins column stretch (key, tuple.now) }
+{
+    let Some(tuple) = tuple else {
+        return false;
+    };
+    let bin = bin_of(column, tuple);
+    stretch.first <= bin && bin < stretch.after
+}
+
+// Which rows of a table are live, and have their bin in a stretch.
+fn rows_in(
+    alloc: Global,
+    table: &Table,
+    column: Column,
+    stretch: Stretch,
+) -> Result<Vec<bool>, Memory>
+    ensures rows { IfOk result (λ rows. rows.items ≡ map (is_in_bins column stretch) table.now) }
+    ensures few { IfOk result (λ rows. length rows.items ≤ 16_777_216) }
+{
+    let mut rows = Vec::new(alloc);
+    for n in 0..table.len() {
+        let (_, tuple) = table.row(n).unwrap();
+        rows.push(has_bin(column, stretch, &tuple))?;
     }
+    Ok(rows)
+}
+
+// Replaces the version of a bin by that of the table at a front.
+fn replace_bin<S: VersionStore, N: Ledger, R: Abort + AllocGlobal>(
+    rt: &R,
+    log: &mut S::Log,
+    store: &mut S,
+    base: &Base,
+    column: Column,
+    bin: u8,
+    front: &Front,
+    table: &Table,
+    steps: &mut Steps<N>,
+) -> Result<(), Memory>
+    requires standing { IsStanding S.Log.terms (S.store store.old) base.now (S.over store.old log.old) }
+    requires bin { bin < bin_count column }
+    requires whole { IsWhole S.Log.terms (S.Log.handle log.old).seen front.now }
+    requires table { table.now ≡ after S.Log.terms.base (S.Log.handle log.old).seen }
+    ensures standing { IsStanding S.Log.terms (S.store store.new) base.now (S.over store.new log.new) }
+    ensures same { S.Log.handle log.new ≡ S.Log.handle log.old }
+{
+    commit_log::laws::handles();
+    let one = Stretch {
+        first: bin,
+        after: bin + 1,
+    };
+    let rows = rows_in(rt.alloc(), table, column, one)?;
+    let wah = Wah::from_rows(rt.alloc(), &rows)?;
+    let content = Content::Bits(Fenced::make(rt.alloc(), wah)?);
+    match store.replace(log, Unit::Bin(column, bin), front, content, steps) {
+        Ok(()) => Ok(()),
+        Err(_) => panic!(rt; "the version is not replaced"),
+    }
+}
+
+// The same for the bins of a stretch.
+pub(crate) fn replace_bins<S: VersionStore, N: Ledger, R: Abort + AllocGlobal>(
+    rt: &R,
+    log: &mut S::Log,
+    store: &mut S,
+    base: &Base,
+    bins: (Column, Stretch),
+    front: &Front,
+    table: &Table,
+    steps: &mut Steps<N>,
+) -> Result<(), Memory>
+    requires standing { IsStanding S.Log.terms (S.store store.old) base.now (S.over store.old log.old) }
+    requires bins { bins.1.after ≤ bin_count bins.0 }
+    requires whole { IsWhole S.Log.terms (S.Log.handle log.old).seen front.now }
+    requires table { table.now ≡ after S.Log.terms.base (S.Log.handle log.old).seen }
+    ensures standing { IsStanding S.Log.terms (S.store store.new) base.now (S.over store.new log.new) }
+    ensures same { S.Log.handle log.new ≡ S.Log.handle log.old }
+{
+    let (column, stretch) = bins;
+    for bin in stretch.first..stretch.after {
+        replace_bin(rt, log, store, base, column, bin, front, table, steps)?;
+    }
+    Ok(())
 }

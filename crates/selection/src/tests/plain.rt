@@ -166,12 +166,23 @@ pub(crate) fn table_after(
 {
     laws::deltas();
     let mut after = Table::new(alloc);
-    let rows = table.len() + u32::from(delta.before.is_none());
-    for n in 0..rows {
+    for n in 0..rows_after(table, delta, limit) {
         let (key, tuple) = row_after(table, delta, n, limit).unwrap();
         after.push(key, tuple)?;
     }
     Ok(after)
+}
+
+// How many rows there are after a delta.
+fn rows_after(table: &Table, delta: &Delta, limit: u32) -> u32
+    requires { IsLawful limit table.now delta.now }
+    ensures { result ≡ length (applied table.now delta.now) }
+{
+    laws::deltas();
+    if delta.before.is_none() {
+        return table.len() + 1;
+    }
+    table.len()
 }
 
 // A row of the table after a delta.
