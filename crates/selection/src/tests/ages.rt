@@ -244,27 +244,27 @@ fn session<S: VersionStore, N: Ledger, M: Ledger, R: Abort + AllocGlobal>(
 }
 
 // Over a table, with a store that loses the holds with these numbers.
-fn ages<S: Setup, N: Ledger, M: Ledger, R: Abort + AllocGlobal>(
+fn over<S: Setup, N: Ledger, M: Ledger, R: Abort + AllocGlobal>(
     rt: &R,
-    blank: Blank,
-    other: Blank,
-    table: Table,
-    same: Table,
+    blanks: (Blank, Blank),
+    tables: (Table, Table),
     lost: &[u32],
 ) -> Result<(), Memory>
-    requires name { blank.name ≡ N.name }
-    requires parts { blank.parts ≡ N.parts }
+    requires name { blanks.0.name ≡ N.name }
+    requires parts { blanks.0.parts ≡ N.parts }
     requires some { 0 < N.parts }
-    requires other_name { other.name ≡ M.name }
-    requires other_parts { other.parts ≡ M.parts }
+    requires other_name { blanks.1.name ≡ M.name }
+    requires other_parts { blanks.1.parts ≡ M.parts }
     requires other_some { 0 < M.parts }
     requires limits { S.limits ≡ record { row_limit = LIMIT; log_limit = 400; tries = 1 } }
-    requires base { S.base ≡ table }
-    requires same { same ≡ table }
-    requires keys { HasDistinctLiveKeys table }
-    requires few { length table ≤ 130_000 }
+    requires base { S.base ≡ tables.0 }
+    requires same { tables.1 ≡ tables.0 }
+    requires keys { HasDistinctLiveKeys tables.0 }
+    requires few { length tables.0 ≤ LIMIT }
 {
     let alloc = rt.alloc();
+    let (blank, other) = blanks;
+    let (table, same) = tables;
     let mut steps = Steps::<N>::make(blank);
     let mut reads = Steps::<M>::make(other);
     let base = Base::build(alloc, same, LIMIT)?;
@@ -288,29 +288,26 @@ fn ages<S: Setup, N: Ledger, M: Ledger, R: Abort + AllocGlobal>(
     }
 }
 
+// Over so many drawn rows.
+fn check<R: Abort + AllocGlobal>(rt: &R, rows: u32, lost: &[u32]) -> Result<(), Memory>
+    requires { rows ≤ LIMIT }
+{
+    let tuples = drawn_tuples(rt.alloc(), rows)?;
+    let table = table_of(rt.alloc(), &tuples)?;
+    let same = copy_of(rt.alloc(), &table)?;
+    let blanks = (Blank::new(1), Blank::new(1));
+    over::<Brand, Brand, Brand, R>(rt, blanks, (table, same), lost)
+}
+
 // More than 32 pages.
 #[test]
 fn a_store_in_memory(rt: HostRuntime) -> Result<(), Fail> {
-    let tuples = drawn_tuples(rt.alloc(), 130_000)?;
-    let table = table_of(rt.alloc(), &tuples)?;
-    let same = copy_of(rt.alloc(), &table)?;
-    ages::<Brand, Brand, Brand, HostRuntime>(&rt, Blank::new(1), Blank::new(1), table, same, &[])?;
+    check(&rt, 130_000, &[])?;
     Ok(())
 }
 
 #[test]
 fn a_store_that_loses_turns(rt: HostRuntime) -> Result<(), Fail> {
-    let tuples = drawn_tuples(rt.alloc(), 9_000)?;
-    let table = table_of(rt.alloc(), &tuples)?;
-    let same = copy_of(rt.alloc(), &table)?;
-    let lost = [1, 2, 40, 77, 200, 201];
-    ages::<Brand, Brand, Brand, HostRuntime>(
-        &rt,
-        Blank::new(1),
-        Blank::new(1),
-        table,
-        same,
-        &lost,
-    )?;
+    check(&rt, 9_000, &[1, 2, 40, 77, 200, 201])?;
     Ok(())
 }

@@ -1,13 +1,12 @@
 //! Deltas that are appended, and versions that are replaced, beside the plain table.
 ghost use Rattle.std.specs.Prelude.{◌≡◌, ◌+◌, ◌<◌, ◌≤◌, IfOk, IfSome, length, map};
+ghost use Rattle.cubit_base.specs.Key.{KeyValue};
 ghost use Rattle.cubit_base.specs.Delta.{IsLawful};
 ghost use Rattle.cubit_base.specs.History.{after};
 ghost use Rattle.commit_log.specs.Log.{IsWhole};
 ghost use Rattle.commit_log.specs.Handle.{Grows};
 ghost use Rattle.column_bins.specs.Column.{bin_count};
-ghost use Rattle.unit_version.specs.Content.{is_live, is_in_bins, one_bin, content_of};
-ghost use Rattle.unit_version.specs.Unit.{IsUnit};
-ghost use Rattle.unit_version.specs.declared.unit.Unit.TheVariants.{Live, Bin};
+ghost use Rattle.unit_version.specs.Content.{is_in_bins};
 ghost use Rattle.version_store.specs.Store.{IsStanding};
 
 use super::plain::table_after;

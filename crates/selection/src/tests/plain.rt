@@ -1,5 +1,5 @@
 //! Plain tables, and deltas that may come there.
-ghost use Rattle.std.specs.Prelude.{◌≡◌, ◌≢◌, ◌⊎◌, ◌+◌, ◌<◌, ◌≤◌, All, IsTrue, IfOk, IfSome, OnOk, length, slice_get};
+ghost use Rattle.std.specs.Prelude.{◌≡◌, ◌≢◌, ◌⊎◌, ℕ, ◌+◌, ◌<◌, ◌≤◌, All, IsTrue, IfOk, IfSome, OnOk, length, slice_get};
 ghost use Rattle.cubit_base.specs.Table.{HasDistinctKeys};
 ghost use Rattle.cubit_base.specs.LiveRow.{HasDistinctLiveKeys};
 ghost use Rattle.cubit_base.specs.Delta.{applied, IsLawful};

@@ -296,11 +296,10 @@ fn own_changes_are_seen(rt: HostRuntime) -> Result<(), Fail> {
 #[test]
 fn new_rows_are_seen(rt: HostRuntime) -> Result<(), Fail> {
     let even = vec![in rt.alloc(); Some(tuple(10_000, 896, 10, 5)); 3_967]?;
-    let new = Move::Insert(tuple(10_000, 896, 11, 5));
     let moves = [
         Move::Change(3_966, Some(tuple(10_000, 896, 12, 5))),
-        new,
-        new,
+        Move::Insert(tuple(10_000, 896, 11, 5)),
+        Move::Insert(tuple(10_000, 896, 11, 5)),
     ];
     let cases = [
         (pieces(11, 11), told(3, 2, 100_000, (3, 3))),
