@@ -21,7 +21,7 @@ use std::test::Fail;
 use unit_version::Base;
 use version_store::{LosingStore, MemoryStore, VersionStore};
 
-const LIMIT: u32 = 130_100;
+const LIMIT: u32 = 128_000;
 
 // So many drawn deltas more, of those from a number on.
 fn grow<L: CommitLog, N: Ledger, R: Abort + AllocGlobal>(
@@ -29,11 +29,10 @@ fn grow<L: CommitLog, N: Ledger, R: Abort + AllocGlobal>(
     log: &mut L,
     front: Front,
     table: Table,
-    first: u32,
-    count: u32,
+    draws: (u32, u32),
     steps: &mut Steps<N>,
 ) -> Result<(Front, Table), Memory>
-    requires count { first + count ≤ 100_000 }
+    requires draws { draws.0 + draws.1 ≤ 100_000 }
     requires limit { L.terms.limits.row_limit ≡ LIMIT }
     requires whole { IsWhole L.terms (L.handle log.old).seen front }
     requires table { table ≡ after L.terms.base (L.handle log.old).seen }
@@ -42,6 +41,7 @@ fn grow<L: CommitLog, N: Ledger, R: Abort + AllocGlobal>(
     ensures grows { Grows (L.handle log.old) (L.handle log.new) }
 {
     commit_log::laws::handles();
+    let (first, count) = draws;
     let mut at = front;
     let mut now = table;
     for k in 0..count {
@@ -60,11 +60,11 @@ fn age<S: VersionStore, N: Ledger, R: Abort + AllocGlobal>(
     base: &Base,
     front: Front,
     table: Table,
-    first: u32,
+    draws: (u32, u32),
     bins: (Column, Stretch),
     steps: &mut Steps<N>,
 ) -> Result<(Front, Table), Memory>
-    requires first { first ≤ 10_000 }
+    requires draws { draws.0 + draws.1 ≤ 100_000 }
     requires limit { S.Log.terms.limits.row_limit ≡ LIMIT }
     requires standing { IsStanding S.Log.terms (S.store store.old) base.now (S.over store.old log.old) }
     requires bins { bins.1.after ≤ bin_count bins.0 }
@@ -74,7 +74,7 @@ fn age<S: VersionStore, N: Ledger, R: Abort + AllocGlobal>(
     ensures whole { IfOk result (λ r. IsWhole S.Log.terms (S.Log.handle log.new).seen r.0) }
     ensures table { IfOk result (λ r. r.1 ≡ after S.Log.terms.base (S.Log.handle log.new).seen) }
 {
-    let (at, now) = grow(rt, log, front, table, first, 40, steps)?;
+    let (at, now) = grow(rt, log, front, table, draws, steps)?;
     replace_bins(rt, log, store, base, bins, &at, &now, steps)?;
     Ok((at, now))
 }
@@ -112,8 +112,10 @@ fn five_ages<S: VersionStore, N: Ledger, R: Abort + AllocGlobal>(
     store: &mut S,
     base: &Base,
     table: Table,
+    draws: u32,
     steps: &mut Steps<N>,
 ) -> Result<(Table, [u32; 6]), Memory>
+    requires draws { draws ≤ 1_000 }
     requires limit { S.Log.terms.limits.row_limit ≡ LIMIT }
     requires standing { IsStanding S.Log.terms (S.store store.old) base.now (S.over store.old log.old) }
     requires new { (S.Log.handle log.old).seen ≡ [] }
@@ -131,13 +133,13 @@ fn five_ages<S: VersionStore, N: Ledger, R: Abort + AllocGlobal>(
             base,
             at,
             now,
-            40 * k as u32,
+            (draws * k as u32, draws),
             AGES[k],
             steps,
         )?;
         lengths[k] = at.len;
     }
-    (at, now) = grow(rt, log, at, now, 200, 40, steps)?;
+    (at, now) = grow(rt, log, at, now, (5 * draws, draws), steps)?;
     lengths[5] = at.len;
     Ok((now, lengths))
 }
@@ -229,16 +231,18 @@ fn session<S: VersionStore, N: Ledger, M: Ledger, R: Abort + AllocGlobal>(
     store: &mut S,
     base: &Base,
     table: Table,
+    draws: u32,
     loses: bool,
     steps: &mut Steps<N>,
     reads: &mut Steps<M>,
 ) -> Result<(), Memory>
+    requires draws { draws ≤ 1_000 }
     requires limit { S.Log.terms.limits.row_limit ≡ LIMIT }
     requires standing { IsStanding S.Log.terms (S.store store.old) base.now (S.over store.old log.old) }
     requires new { (S.Log.handle log.old).seen ≡ [] }
     requires table { table ≡ S.Log.terms.base }
 {
-    let (now, lengths) = five_ages(rt, log, store, base, table, steps)?;
+    let (now, lengths) = five_ages(rt, log, store, base, table, draws, steps)?;
     assert!(rt; lengths[0] < lengths[1] && lengths[4] < lengths[5]);
     cases_agree(rt, log, store, base, &now, lengths, loses, steps, reads)
 }
@@ -248,8 +252,10 @@ fn over<S: Setup, N: Ledger, M: Ledger, R: Abort + AllocGlobal>(
     rt: &R,
     blanks: (Blank, Blank),
     tables: (Table, Table),
+    draws: u32,
     lost: &[u32],
 ) -> Result<(), Memory>
+    requires draws { draws ≤ 1_000 }
     requires name { blanks.0.name ≡ N.name }
     requires parts { blanks.0.parts ≡ N.parts }
     requires some { 0 < N.parts }
@@ -277,37 +283,38 @@ fn over<S: Setup, N: Ledger, M: Ledger, R: Abort + AllocGlobal>(
     if lost.is_empty() {
         let mut store = MemoryStore::make(alloc, &base, &mut log)?;
         session(
-            rt, &mut log, &mut store, &base, table, false, &mut steps, &mut reads,
+            rt, &mut log, &mut store, &base, table, draws, false, &mut steps, &mut reads,
         )
     } else {
         let lost = Vec::from_slice(alloc, lost)?;
         let mut store = LosingStore::make(alloc, &base, &mut log, lost)?;
         session(
-            rt, &mut log, &mut store, &base, table, true, &mut steps, &mut reads,
+            rt, &mut log, &mut store, &base, table, draws, true, &mut steps, &mut reads,
         )
     }
 }
 
-// Over so many drawn rows.
-fn check<R: Abort + AllocGlobal>(rt: &R, rows: u32, lost: &[u32]) -> Result<(), Memory>
-    requires { rows ≤ LIMIT }
+// Over so many drawn rows, with so many drawn deltas for each age.
+fn check<R: Abort + AllocGlobal>(rt: &R, rows: u32, draws: u32, lost: &[u32]) -> Result<(), Memory>
+    requires rows { rows ≤ LIMIT }
+    requires draws { draws ≤ 1_000 }
 {
     let tuples = drawn_tuples(rt.alloc(), rows)?;
     let table = table_of(rt.alloc(), &tuples)?;
     let same = copy_of(rt.alloc(), &table)?;
     let blanks = (Blank::new(1), Blank::new(1));
-    over::<Brand, Brand, Brand, R>(rt, blanks, (table, same), lost)
+    over::<Brand, Brand, Brand, R>(rt, blanks, (table, same), draws, lost)
 }
 
 // More than 32 pages.
 #[test]
 fn a_store_in_memory(rt: HostRuntime) -> Result<(), Fail> {
-    check(&rt, 130_000, &[])?;
+    check(&rt, 127_500, 6, &[])?;
     Ok(())
 }
 
 #[test]
 fn a_store_that_loses_turns(rt: HostRuntime) -> Result<(), Fail> {
-    check(&rt, 9_000, &[1, 2, 40, 77, 200, 201])?;
+    check(&rt, 9_000, 40, &[1, 2, 40, 77, 200, 201])?;
     Ok(())
 }

@@ -56,7 +56,10 @@ pub(crate) fn agrees<S: VersionStore, N: Ledger, M: Ledger, R: Abort + AllocGlob
     let summed = sum(alloc, log, store, base, predicate, 1, steps, reads)?;
     let plain = table.totals(predicate);
     assert!(rt; is_list(&listed.list, table, predicate), "{predicate:?}");
-    assert_eq!(rt; (counted.count, summed.count, summed.sum), (plain.count, plain.count, plain.sum));
+    assert_eq!(rt;
+        (counted.count, summed.count, summed.sum),
+        (plain.count, plain.count, plain.sum)
+    );
     assert_eq!(rt; (listed.front, counted.front), (summed.front, summed.front));
     Ok(Told {
         front: summed.front.len,

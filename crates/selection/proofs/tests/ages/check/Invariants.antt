@@ -3,7 +3,7 @@ use Rattle.selection.proofs.tests.ages.check.Given as goal
 abbrev pub ghosts-over-S-Setup : goal.ghosts-over-S-Setup
 ghosts-over-S-Setup g a = record {
   base = a.tables.0;
-  limits = record { row_limit = 130100; log_limit = 400; tries = 1 };
+  limits = record { row_limit = 128000; log_limit = 400; tries = 1 };
 }
 
 abbrev pub ghosts-over-N-Ledger : goal.ghosts-over-N-Ledger
