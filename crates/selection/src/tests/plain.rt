@@ -175,8 +175,10 @@ pub(crate) fn table_after(
 
 // How many rows there are after a delta.
 fn rows_after(table: &Table, delta: &Delta, limit: u32) -> u32
-    requires { IsLawful limit table.now delta.now }
-    ensures { result ≡ length (applied table.now delta.now) }
+    requires lawful { IsLawful limit table.now delta.now }
+    requires limit { limit ≤ 16_777_216 }
+    ensures value { result ≡ length (applied table.now delta.now) }
+    ensures few { result ≤ 16_777_216 }
 {
     laws::deltas();
     if delta.before.is_none() {
