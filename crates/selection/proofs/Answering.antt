@@ -41,10 +41,10 @@ sum-passing f test [] = refl
 sum-passing f test (x ∷ xs) =
     kept f (test x) x (filter test xs) ∙ ap (λ n. cond (test x) (f x) 0 + n) (sum-passing f test xs)
     ∙ sym (sum_by-cons (λ x. cond (test x) (f x) 0) x xs) where
-  kept : {X : Type 0} (f : X → ℕ) (b : Bool) (x : X) (xs : List X) →
-      sum_by f (cond b (x ∷ xs) xs) ≡ cond b (f x) 0 + sum_by f xs
-  kept f true x xs = sum_by-cons f x xs
-  kept f false x xs = omega arith
+      kept : {X : Type 0} (f : X → ℕ) (b : Bool) (x : X) (xs : List X) →
+          sum_by f (cond b (x ∷ xs) xs) ≡ cond b (f x) 0 + sum_by f xs
+      kept f true x xs = sum_by-cons f x xs
+      kept f false x xs = omega arith
 
 -- how many rows match
 pub answer-count : (p : Predicate) (table : List Row) (n : ℕ) → length table ≤ n →
@@ -91,9 +91,9 @@ places-all test table n none past =
     ∙ ap (λ ps. true_places 0 rows ++ ps) (none-past (0 + length rows) more test none)
     ∙ append-nil (true_places 0 rows)
     ∙ ap (true_places 0) (map-map test (λ r. r.1) table) where
-  append-nil : {X : Type 0} (xs : List X) → xs ++ [] ≡ xs
-  append-nil [] = refl
-  append-nil (x ∷ xs) = ap (λ ys. x ∷ ys) (append-nil xs)
+      append-nil : {X : Type 0} (xs : List X) → xs ++ [] ≡ xs
+      append-nil [] = refl
+      append-nil (x ∷ xs) = ap (λ ys. x ∷ ys) (append-nil xs)
 
 numbers : (p : Predicate) (n : ℕ) (table : List Row) →
     true_places n (map (λ r. is_match_at p r.1) table)
@@ -105,10 +105,10 @@ numbers p n (r ∷ table) =
     (true_places (n + 1) (map (λ r. is_match_at p r.1) table))) (sym (same-match p r))
     ∙ kept (is_match p r) (true_places (n + 1) (map (λ r. is_match_at p r.1) table))
     (filter (λ r. is_match p r.1) (enumerate_from (n + 1) table)) (numbers p (n + 1) table) where
-  kept : (b : Bool) (ps : List ℕ) (rs : List (ℕ × Row)) → ps ≡ map (λ r. r.0) rs →
-      cond b (n ∷ ps) ps ≡ map (λ r. r.0) (cond b ((n, r) ∷ rs) rs)
-  kept true ps rs same = ap (λ ps. n ∷ ps) same
-  kept false ps rs same = same
+      kept : (b : Bool) (ps : List ℕ) (rs : List (ℕ × Row)) → ps ≡ map (λ r. r.0) rs →
+          cond b (n ∷ ps) ps ≡ map (λ r. r.0) (cond b ((n, r) ∷ rs) rs)
+      kept true ps rs same = ap (λ ps. n ∷ ps) same
+      kept false ps rs same = same
 
 pub answer-rows : (p : Predicate) (table : List Row) (n : ℕ) → length table ≤ n →
     true_places 0 (map (is_match_at p) (tuples_from table 0 n)) ≡ (answer table p).rows

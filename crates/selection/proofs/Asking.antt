@@ -54,9 +54,9 @@ fallbacks-map shown (claim ∷ claims) =
     ∙ ap (λ n. cond (is_none (option_map shown claim)) 1 0 + n) (fallbacks-map shown claims)
     ∙ ap (λ b. cond b 1 0 + fallback_count claims) (same claim)
     ∙ sym (sum_by-cons (λ c. cond (is_none c) 1 0) claim claims) where
-  same : (c : Option _) → is_none (option_map shown c) ≡ is_none c
-  same None = refl
-  same (Some c) = refl
+      same : (c : Option _) → is_none (option_map shown c) ≡ is_none c
+      same None = refl
+      same (Some c) = refl
 
 -- ---- rows
 

@@ -49,9 +49,9 @@ stretch-low column None stretch s bin are is has = absurd cc
 stretch-low column (Some r) None s bin are is has = absurd are
 stretch-low column (Some r) (Some t) s bin are is has =
     met-low column r bin (sym (are bin) ∙ ap (λ (o : Option Stretch). bin_in o) is ∙ bin-in s bin has) where
-  bin_in : Option Stretch → Bool
-  bin_in None = false
-  bin_in (Some x) = in_stretch x bin
+      bin_in : Option Stretch → Bool
+      bin_in None = false
+      bin_in (Some x) = in_stretch x bin
 
 pub plan-fits : (p : Predicate) (plan : Plan) →
     ((column : Column) → IsStretch column (range_of column p) (stretch_of column plan)) → FitsColumns plan
@@ -73,15 +73,15 @@ count-stretch (suc n) s =
     let rest = count-stretch n s in
     elim (cases_lt n s.first) [
       | inl before ↦
-          let out = cond-false (in_stretch s n) 1 0 (and_left (nat_le s.first n) (nat_lt n s.after) (lt-leb s.first n before)) in
+          let out = cond-false {A = ℕ} (in_stretch s n) 1 0 (and_left (nat_le s.first n) (nat_lt n s.after) (lt-leb s.first n before)) in
           omega (arith, out, rest, before)
       | inr from ↦ elim (cases_lt n s.after) [
         | inl within ↦
-            let here = cond-true (in_stretch s n) 1 0
+            let here = cond-true {A = ℕ} (in_stretch s n) 1 0
             (and_from (nat_le s.first n) (nat_lt n s.after) (le-leb s.first n from) (lt-ltb n s.after within)) in
             omega (arith, here, rest, from, within)
         | inr behind ↦
-            let out = cond-false (in_stretch s n) 1 0
+            let out = cond-false {A = ℕ} (in_stretch s n) 1 0
             (and_right (nat_le s.first n) (nat_lt n s.after) (le-ltb n s.after behind)) in
             omega (arith, out, rest, from, behind)
       ]
@@ -93,14 +93,14 @@ width-met column None stretch are = ap width_of are
 width-met column (Some r) None are = absurd are
 width-met column (Some r) (Some s) are =
     whole ∙ sym (count-stretch (bin_count column) s) ∙ count-same (bin_count column) (in_stretch s) (is_met column r) are where
-  whole : s.after - s.first ≡ min (bin_count column) s.after - s.first
-  whole = elim (cases_lt s.first s.after) [
-    | inl some ↦
-        let last = stretch-low column (Some r) (Some s) s (s.after - 1) are refl
-        (omega (arith, some), omega (arith, some)) in
-        omega (arith, last, some)
-    | inr none ↦ omega (arith, none)
-  ]
+      whole : s.after - s.first ≡ min (bin_count column) s.after - s.first
+      whole = elim (cases_lt s.first s.after) [
+        | inl some ↦
+            let last = stretch-low column (Some r) (Some s) s (s.after - 1) are refl
+            (omega (arith, some), omega (arith, some)) in
+            omega (arith, last, some)
+        | inr none ↦ omega (arith, none)
+      ]
 
 -- ---- all units
 
@@ -109,9 +109,9 @@ pages-met : (p : Predicate) (sum : Bool) (plan : Plan) (first rows : ℕ) → pl
 pages-met p sum plan first rows is less =
     subst (λ b. (if b then (first + 3967) / 3968 else 0) ≤ (if needs_pages p sum then (rows + 3967) / 3968 else 0)) (sym is)
     (both (needs_pages p sum)) where
-  both : (b : Bool) → (if b then (first + 3967) / 3968 else 0) ≤ (if b then (rows + 3967) / 3968 else 0)
-  both true = omega (arith, less)
-  both false = omega arith
+      both : (b : Bool) → (if b then (first + 3967) / 3968 else 0) ≤ (if b then (rows + 3967) / 3968 else 0)
+      both true = omega (arith, less)
+      both false = omega arith
 
 -- a plan has no more units at a first front than the query needs at the answer's
 pub planned-few : (p : Predicate) (sum : Bool) (plan : Plan) (first rows : ℕ) → IsPlanOf p sum plan → first ≤ rows →
@@ -120,7 +120,7 @@ planned-few p sum plan first rows is less =
     let width = λ (column : Column). width-met column (range_of column p) (stretch_of column plan) (is.stretches column) in
     omega (
       arith,
-      ap (λ b. if b then 1 else 0) (open-plan p plan is.stretches),
+      ap {B = ℕ} (λ b. if b then 1 else 0) (open-plan p plan is.stretches),
       width Ship,
       width Disc,
       width Qty,

@@ -13,3 +13,4 @@ mod Answering
 mod Paging
 mod Counting
 mod Asking
+mod Copying

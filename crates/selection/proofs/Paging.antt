@@ -38,8 +38,8 @@ length-unpacked (group ∷ groups) =
     length-append (low_bits 31 group) (unpacked groups)
     ∙ ap (λ n. n + length (unpacked groups)) (length-bits 31 group)
     ∙ ap (λ n. 31 + n) (length-unpacked groups) ∙ more (length groups) where
-  more : (n : ℕ) → 31 + 31 * n ≡ 31 * suc n
-  more n = omega arith
+      more : (n : ℕ) → 31 + 31 * n ≡ 31 * suc n
+      more n = omega arith
 
 -- the law of rows of groups
 abbrev pub RowLaw : Type 0

@@ -57,11 +57,11 @@ places-tuples test table row first (suc n) =
     ∙ ap (λ k. filter test (tuples_from table k n)) next in
     kept (test (tuple_at table here)) (true_places (first + 1) (map test (tuples_from table (here + 1) n)))
     (filter test (tuples_from table (here + 1) n)) rest where
-  kept : (b : Bool) (ps : List ℕ) (ts : List (Option TupleValue)) →
-      map (λ place. tuple_at table (row + place)) ps ≡ ts →
-      map (λ place. tuple_at table (row + place)) (cond b (first ∷ ps) ps) ≡ cond b (tuple_at table (row + first) ∷ ts) ts
-  kept true ps ts same = ap (λ xs. tuple_at table (row + first) ∷ xs) same
-  kept false ps ts same = same
+      kept : (b : Bool) (ps : List ℕ) (ts : List (Option TupleValue)) →
+          map (λ place. tuple_at table (row + place)) ps ≡ ts →
+          map (λ place. tuple_at table (row + place)) (cond b (first ∷ ps) ps) ≡ cond b (tuple_at table (row + first) ∷ ts) ts
+      kept true ps ts same = ap (λ xs. tuple_at table (row + first) ∷ xs) same
+      kept false ps ts same = same
 
 past-place : (rows : List Bool) (first row : ℕ) → row < first → has (true_places first rows) row ≡ false
 unfolding true_places
@@ -94,8 +94,8 @@ places-few first [] = omega arith
 places-few first (true ∷ rows) =
     let one = ap (λ (n : ℕ). n) (length-cons first (true_places (first + 1) rows)) in
     omega (arith, one, length-cons true rows, places-few (first + 1) rows) where
-  length-cons : {X : Type 0} (x : X) (xs : List X) → length (x ∷ xs) ≡ suc (length xs)
-  length-cons x xs = refl
+      length-cons : {X : Type 0} (x : X) (xs : List X) → length (x ∷ xs) ≡ suc (length xs)
+      length-cons x xs = refl
 places-few first (false ∷ rows) = omega (arith, places-few (first + 1) rows)
 
 -- the places of one page more, or of one block of 32 pages more

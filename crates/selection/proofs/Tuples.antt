@@ -79,8 +79,8 @@ sum-all f table n none past =
     ∙ ap (λ k. sum_by f (map (λ r. r.1) table) + k) (sum_by-replicate f more None ∙ ap (λ k. more * k) none)
     ∙ sum-end (sum_by f (map (λ r. r.1) table)) more
     ∙ sum-map f (λ r. r.1) table where
-  sum-end : (a b : ℕ) → a + b * 0 ≡ a
-  sum-end a b = omega arith
+      sum-end : (a b : ℕ) → a + b * 0 ≡ a
+      sum-end a b = omega arith
 
 -- where those that do not pass add nothing, it is enough to add up those that do
 pub sum-filter : {X : Type 0} (f : X → ℕ) (test : X → Bool) (xs : List X) →
@@ -90,10 +90,10 @@ sum-filter f test (x ∷ xs) none =
     sum-kept (test x) x (filter test xs) (none 0 x (omega arith))
     ∙ ap (λ n. f x + n) (sum-filter f test xs (λ k d within. none (suc k) d (omega (arith, within))))
     ∙ sym (sum_by-cons f x xs) where
-  sum-kept : (b : Bool) (y : _) (ys : List _) → (b ≡ false → f y ≡ 0) →
-      sum_by f (cond b (y ∷ ys) ys) ≡ f y + sum_by f ys
-  sum-kept true y ys none = sum_by-cons f y ys
-  sum-kept false y ys none = omega (arith, none refl)
+      sum-kept : (b : Bool) (y : _) (ys : List _) → (b ≡ false → f y ≡ 0) →
+          sum_by f (cond b (y ∷ ys) ys) ≡ f y + sum_by f ys
+      sum-kept true y ys none = sum_by-cons f y ys
+      sum-kept false y ys none = omega (arith, none refl)
 
 -- none of them passes
 pub count-none : (test : Option TupleValue → Bool) (table : List Row) (row n : ℕ) →
@@ -109,8 +109,8 @@ count-none test table row (suc n) none =
     let next : row + 1 + i ≡ row + suc i = omega arith in
     ap (λ k. test (tuple_at table k)) next ∙ none (suc i) (omega (arith, within))))
     ∙ zero-sum where
-  zero-sum : 0 + 0 ≡ 0
-  zero-sum = omega arith
+      zero-sum : 0 + 0 ≡ 0
+      zero-sum = omega arith
 
 -- one stretch more
 pub sum-more : (f : Option TupleValue → ℕ) (table : List Row) (first k : ℕ) →

@@ -35,7 +35,13 @@ impl<'t, S: VersionStore> Scan<'t, S> {
         let mut totals = Totals { count: 0, sum: 0 };
         for n in 0..rows.div_ceil(BLOCK_ROWS) {
             self.candidates(BLOCK_PAGES * n, &mut candidates);
-            self.add_block(BLOCK_PAGES * n, &candidates, &mut totals, &mut places, reads);
+            self.add_block(
+                BLOCK_PAGES * n,
+                &candidates,
+                &mut totals,
+                &mut places,
+                reads,
+            );
         }
         totals
     }
@@ -92,6 +98,13 @@ impl<'t, S: VersionStore> Scan<'t, S> {
         laws::candidates();
         let len = true_places(candidates, places);
         let tuples = self.taken.page(self.store, self.base, page);
-        add_up(&tuples, &places[..len], self.predicate, self.cuts, totals, reads);
+        add_up(
+            &tuples,
+            &places[..len],
+            self.predicate,
+            self.cuts,
+            totals,
+            reads,
+        );
     }
 }

@@ -128,7 +128,7 @@ impl<'t, S: VersionStore> Scan<'t, S> {
         ensures { (test : Option TupleValue → Bool) →
             Tells test (table_at S.Log.terms self.now.taken) first rows.old →
             Tells (λ tuple. test tuple && admits_at column (range_of column self.now.predicate) tuple)
-                (table_at S.Log.terms self.now.taken) first rows.new }
+            (table_at S.Log.terms self.now.taken) first rows.new }
     {
         laws::units();
         let Some(stretch) = stretch_of(self.plan, column) else {
@@ -143,13 +143,7 @@ impl<'t, S: VersionStore> Scan<'t, S> {
     }
 
     // Writes which rows of 32 pages are live and have their bin in a stretch of the plan's.
-    fn stretch(
-        &self,
-        column: Column,
-        stretch: Stretch,
-        first: u32,
-        out: &mut [u32; BLOCK_GROUPS],
-    )
+    fn stretch(&self, column: Column, stretch: Stretch, first: u32, out: &mut [u32; BLOCK_GROUPS])
         requires { (bin : ℕ) → HasBin stretch bin →
             Contains (units_of self.now.taken.plan self.now.taken.pages) (Bin column bin) }
         ensures { Tells (has_bin_at column stretch) (table_at S.Log.terms self.now.taken) first out.new }
