@@ -39,7 +39,7 @@ struct Cover {
 
 static inline Cover cover_of(const Base &base, size_t first, size_t after)
 {
-    const std::vector<Union> kept = unions();
+    const std::vector<Union> kept = base.plain.empty() ? std::vector<Union>() : unions();
     Cover cover;
     while (first < after) {
         size_t widest = 1, found = kept.size();

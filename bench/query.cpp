@@ -1,8 +1,8 @@
 /*
  * What the queries of the program that measures them answer, and how fast others are: a scan of four columns, the C++
  * twin of the same index and the same way to ask it, and, where it is built with ROARING, bitmaps of CRoaring. All on
- * one thread; the scan is written for the vectors of x86-64-v2. The states beside and after updates are those of the
- * columns alone.
+ * one thread; the scan is written for the vectors of x86-64-v2. Beside and after updates it asks an index that was made
+ * of the rows after them, without its unions.
  *
  * query FILE ROUNDS [YEAR DISCOUNT QUANTITY] [--times]
  */
@@ -160,31 +160,17 @@ static void expect(bool same, const char *what, const char *name)
 }
 
 /* As many updates of quantities as the program makes, of the same rows. */
-static void update(Columns &columns)
+static void update(std::vector<Row> &rows)
 {
     uint64_t state = 1;
-    for (int i = 0; i < 10000 && !columns.qty.empty(); i++) {
+    for (int i = 0; i < 10000 && !rows.empty(); i++) {
         state = state * 6364136223846793005u + 1442695040888963407u;
-        columns.qty[(state >> 33) % columns.qty.size()] = uint8_t(1 + (state >> 20) % 50);
+        rows[(state >> 33) % rows.size()].qty = uint8_t(1 + (state >> 20) % 50);
     }
 }
 
-static void measure_scan(const char *state, const Columns &columns, const Case &asked, int rounds, bool tells_times)
-{
-    Least scans;
-    Answer answer;
-    for (int round = 0; round < rounds; round++) {
-        Clock::time_point began = Clock::now();
-        answer = scan(columns, asked);
-        scans.take(began);
-    }
-    printf("%s %s count=%u sum=%llu\n", state, asked.name, answer.count, (unsigned long long)answer.sum);
-    if (tells_times)
-        fprintf(stderr, "%s %s scan_ns=%llu scan_median_ns=%llu\n", state, asked.name, scans.least(), scans.median());
-}
-
-static void measure(const Columns &columns, const Base &base, const Bitmaps &bitmaps, const Case &asked, int rounds,
-    bool tells_times)
+static void measure(const char *state, const Columns &columns, const Base &base, const Bitmaps &bitmaps, const Case &asked,
+    int rounds, bool tells_times)
 {
     Least scans, sums, counts, roaring;
     Answer answer;
@@ -210,10 +196,31 @@ static void measure(const Columns &columns, const Base &base, const Bitmaps &bit
 #endif
     }
     (void)bitmaps;
-    printf("base %s count=%u sum=%llu\n", asked.name, answer.count, (unsigned long long)answer.sum);
+    printf("%s %s count=%u sum=%llu\n", state, asked.name, answer.count, (unsigned long long)answer.sum);
     if (tells_times)
-        fprintf(stderr, "base %s scan_ns=%llu scan_median_ns=%llu twin_ns=%llu twin_count_ns=%llu roaring_ns=%llu\n",
+        fprintf(stderr, "%s %s scan_ns=%llu scan_median_ns=%llu twin_ns=%llu twin_count_ns=%llu roaring_ns=%llu\n", state,
             asked.name, scans.least(), scans.median(), sums.least(), counts.least(), roaring.least());
+}
+
+/* After updates the index has no unions. */
+static void measure_all(std::initializer_list<const char *> states, const std::vector<Row> &rows, bool has_unions,
+    const std::vector<Case> &cases, int rounds, bool tells_times)
+{
+    Columns columns = columns_of(rows);
+    Base base;
+    build_lists(rows, base);
+    build_pages(rows, base);
+    build_keys(rows, base);
+    if (tells_times && has_unions) {
+        Bytes bytes = bytes_of(base);
+        fprintf(stderr, "bytes=%zu\n", bytes.lists + bytes.unions + bytes.pages + bytes.keys);
+    }
+    if (!has_unions)
+        base.plain.clear();
+    Bitmaps bitmaps(rows);
+    for (const char *state : states)
+        for (const Case &asked : cases)
+            measure(state, columns, base, bitmaps, asked, rounds, tells_times);
 }
 
 int main(int count, char **words)
@@ -229,21 +236,8 @@ int main(int count, char **words)
     if (count == 6)
         cases = { q6("q6", uint32_t(atoi(words[3])), uint32_t(std::lround(100 * atof(words[4]))), uint32_t(atoi(words[5]))) };
     std::vector<Row> rows = rows_of(words[1]);
-    Columns columns = columns_of(rows);
-    Base base;
-    build_lists(rows, base);
-    build_pages(rows, base);
-    build_keys(rows, base);
-    if (tells_times) {
-        Bytes bytes = bytes_of(base);
-        fprintf(stderr, "bytes=%zu\n", bytes.lists + bytes.unions + bytes.pages + bytes.keys);
-    }
-    Bitmaps bitmaps(rows);
-    for (const Case &asked : cases)
-        measure(columns, base, bitmaps, asked, rounds, tells_times);
-    update(columns);
-    for (const char *state : { "unmerged", "merged" })
-        for (const Case &asked : cases)
-            measure_scan(state, columns, asked, rounds, tells_times);
+    measure_all({ "base" }, rows, true, cases, rounds, tells_times);
+    update(rows);
+    measure_all({ "unmerged", "merged" }, rows, false, cases, rounds, tells_times);
     return fflush(stdout) != 0;
 }

@@ -13,8 +13,11 @@ use std::alloc::Global;
 use std::marker::Model;
 use wah_words::{GROUP_ROWS, PAGE_GROUPS, PAGE_ROWS, PageWriter, Place, Run, Wah, one_spelling};
 
-/// The groups of the pages that are read at once.
-pub const BLOCK_GROUPS: usize = 32 * PAGE_GROUPS;
+// The pages that are read at once.
+const BLOCK_PAGES: usize = 32;
+
+/// The groups of these pages.
+pub const BLOCK_GROUPS: usize = BLOCK_PAGES * PAGE_GROUPS;
 
 const _: () = prove!(BLOCK_GROUPS == 4_096);
 
@@ -94,7 +97,7 @@ impl Fenced {
         out.fill(0);
         let words = self.wah.words();
         match self.fences.get(page as usize) {
-            Some(fence) => or_groups(words, *fence, out),
+            Some(fence) => or_groups(words, *fence, self.end_before(page as usize + 1), out),
             None => {}
         }
     }
@@ -106,8 +109,18 @@ impl Fenced {
     {
         let words = self.wah.words();
         match self.fences.get(first as usize) {
-            Some(fence) => or_groups(words, *fence, out),
+            Some(fence) => {
+                or_groups(words, *fence, self.end_before(first as usize + BLOCK_PAGES), out);
+            }
             None => {}
+        }
+    }
+
+    // The word at which a page begins, or the end of the words.
+    fn end_before(&self, page: usize) -> usize {
+        match self.fences.get(page) {
+            Some(fence) => fence.word,
+            None => self.wah.words().len(),
         }
     }
 

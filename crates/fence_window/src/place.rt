@@ -43,8 +43,9 @@ pub(crate) fn advanced(words: &[u32], place: Place, groups: u32) -> Place
 const BLOCK_WORDS: usize = 8;
 
 /// Puts the groups from a place on into numbers, by or, as far as there is room; behind the last group nothing changes.
+/// It takes least time where the words of these groups end at `end`.
 #[inline(always)]
-pub(crate) fn or_groups(words: &[u32], place: Place, out: &mut [u32])
+pub(crate) fn or_groups(words: &[u32], place: Place, end: usize, out: &mut [u32])
     requires { place.skipped ≤ run_count (slice_index words.now place.word) }
     ensures { OrsFrom out.old out.new (groups_from words.now place) }
 {
@@ -53,12 +54,52 @@ pub(crate) fn or_groups(words: &[u32], place: Place, out: &mut [u32])
     }
     let run = Run::of_word(words[place.word]);
     let at = or_run(out, 0, run.group, run.count - place.skipped);
-    or_words(out, at, &words[place.word + 1..]);
+    let rest = &words[place.word + 1..];
+    or_words(out, at, rest, end.saturating_sub(place.word + 1));
 }
 
-// The same for the groups of words, from a number on.
+// The same for the groups of words, from a number on, of which so many are likely to be read. A first pass over these
+// counts the fills: where there are few, literals go by blocks. It also brings the words near at full speed, which one
+// word after another does not: they come from far memory, and there are many lists.
 #[inline(always)]
-fn or_words(out: &mut [u32], from: usize, words: &[u32])
+fn or_words(out: &mut [u32], from: usize, words: &[u32], near: usize)
+    ensures { OrsAt out.old out.new from (groups words.now) }
+{
+    let near = near.min(words.len());
+    if fill_count(&words[..near]) < near / BLOCK_WORDS {
+        or_blocks(out, from, words);
+        return;
+    }
+    or_one_by_one(out, from, words);
+}
+
+// How many words are fills.
+#[inline(always)]
+fn fill_count(words: &[u32]) -> usize {
+    let mut count = 0u32;
+    for word in words {
+        count = count.wrapping_add(*word >> 31);
+    }
+    count as usize
+}
+
+// The same word by word. A list with many fills has few blocks that are literals alone, and a test for each is lost.
+#[inline(always)]
+fn or_one_by_one(out: &mut [u32], from: usize, words: &[u32])
+    ensures { OrsAt out.old out.new from (groups words.now) }
+{
+    let mut at = from;
+    for word in words {
+        if at >= out.len() {
+            return;
+        }
+        at = or_word(out, at, *word);
+    }
+}
+
+// The same by blocks.
+#[inline(always)]
+fn or_blocks(out: &mut [u32], from: usize, words: &[u32])
     ensures { OrsAt out.old out.new from (groups words.now) }
 {
     let mut at = from;

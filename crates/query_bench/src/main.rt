@@ -19,6 +19,8 @@
 //! ```
 #![tactic(auto)]
 
+ghost use Rattle.std.specs.Prelude.{◌≤◌, length};
+
 mod cases;
 mod session;
 mod telling;
@@ -65,7 +67,9 @@ fn measure<R: Clock + Print + Eprint + AllocGlobal>(
     bytes: &[u8],
     asked: &Asked<'_>,
     cases: &[Case],
-) -> io::Result<()> {
+) -> io::Result<()>
+    requires { length bytes.now ≤ u32.MAX }
+{
     let mut report = measured(rt, bytes, asked.rounds, cases)?;
     tell(rt, cases, &mut report, asked.tells_times)
 }

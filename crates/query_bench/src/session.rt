@@ -58,12 +58,20 @@ fn drawn(alloc: Global, table: &Table) -> Result<Vec<(Key, Tuple)>, Memory> {
             .wrapping_mul(6_364_136_223_846_793_005)
             .wrapping_add(1_442_695_040_888_963_407);
         let row = ((state >> 33) % u64::from(table.len().max(1))) as u32;
-        if let Some((key, Some(tuple))) = table.row(row) {
-            let qty = 1 + ((state >> 20) % 50) as u8;
-            updates.push((key, Tuple { qty, ..tuple }))?;
+        if let Some(update) = update_of(table, row, 1 + ((state >> 20) % 50) as u8) {
+            updates.push(update)?;
         }
     }
     Ok(updates)
+}
+
+// The key of a live row, and its tuple with another quantity.
+fn update_of(table: &Table, row: u32, qty: u8) -> Option<(Key, Tuple)>
+    requires { (1 ≤ qty) × (qty ≤ 50) }
+{
+    let (key, tuple) = table.row(row)?;
+    let tuple = tuple?;
+    Some((key, Tuple { qty, ..tuple }))
 }
 
 fn session<S: Setup, N: Ledger, M: Ledger, R: Clock + AllocGlobal>(

@@ -1,7 +1,7 @@
 use Rattle.std.proofs.Common.{◌≡◌, ◌+◌, ◌*◌, length, take}
 use Rattle.wah_words.specs.Word.{groups}
 use Rattle.fence_window.specs.Ors.{OrsAt}
-use Rattle.fence_window.proofs.place.or_words.Given as goal
+use Rattle.fence_window.proofs.place.or_blocks.Given as goal
 
 abbrev pub invariant-loop-block : goal.invariant-loop-block
 invariant-loop-block l = record {

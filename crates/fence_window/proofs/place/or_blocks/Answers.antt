@@ -5,7 +5,7 @@ use Rattle.wah_words.specs.Word.{groups, word_groups}
 use Rattle.fence_window.specs.Ors.{OrsAt}
 use Rattle.fence_window.proofs.Ors.{ors_none, ors_append, ors_full}
 use Rattle.fence_window.proofs.Blocks.{groups-parted, groups-take_add, get_or-first_chunks}
-use Rattle.fence_window.proofs.place.or_words.Goals as goal
+use Rattle.fence_window.proofs.place.or_blocks.Goals as goal
 
 pub loop-block-init : goal.loop-block-init
 loop-block-init c = record {
