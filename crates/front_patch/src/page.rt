@@ -1,6 +1,7 @@
 //! The tuples of a page at a front.
-ghost use Rattle.std.specs.Prelude.{◌≡◌, ◌+◌, ◌^◌, ◌<◌, AllPairs, None, slice_index_or};
+ghost use Rattle.std.specs.Prelude.{◌≡◌, ◌+◌, ◌/◌, ◌^◌, ◌<◌, ◌≤◌, ℕ, All, AllPairs, None, false, slice_index_or};
 ghost use Rattle.std.specs.Option.{option_and_then};
+ghost use Rattle.front_patch.specs.RowStates.{last_state};
 
 use crate::row_state::{RowState, state_of};
 use cubit_base::{Steps, Tuple};
@@ -15,8 +16,33 @@ pub struct PageAtFront<'t> {
     // The page's first row, and the rows of it that were changed, in rising order.
     pub(crate) first: u64,
     pub(crate) changed: &'t [RowState],
+    // The sixteens of rows of which some were changed: most rows need no search.
+    pub(crate) marks: [bool; MARKS],
     ghost rising: { AllPairs (λ a b. a.row < b.row) changed.now },
     ghost end: { first + 3_968 < 2 ^ 64 },
+    ghost marked: { (at : ℕ) → at < 3_968 → slice_index_or marks (at / 16) false ≡ false →
+        last_state (first + at) changed.now ≡ None },
+}
+
+// How many rows have one mark, and how many marks a page has.
+const MARKED_ROWS: usize = 16;
+
+pub(crate) const MARKS: usize = 248;
+
+const _: () = prove!(MARKS == 248);
+
+/// Marks the sixteens of a page's rows of which some were changed.
+pub(crate) fn marks_of(changed: &[RowState], first: u64) -> [bool; MARKS]
+    requires { All (λ s. (first ≤ s.row) × (s.row < first + 3_968)) changed.now }
+    ensures { (at : ℕ) → at < 3_968 → slice_index_or result (at / 16) false ≡ false →
+        last_state (first + at) changed.now ≡ None }
+{
+    let mut marks = [false; MARKS];
+    for state in changed {
+        let place = (u64::from(state.row) - first) as usize;
+        marks[place / MARKED_ROWS] = true;
+    }
+    marks
 }
 
 impl<'t> PageAtFront<'t> {
@@ -25,6 +51,18 @@ impl<'t> PageAtFront<'t> {
     /// The tuple of the row at this place of the page, or none where the row is not live and past the last row. It
     /// counts one read whatever it answers.
     pub fn get<N: Ledger>(&self, at: u16, reads: &mut Steps<N>) -> Option<Tuple>
+        requires { at < 3_968 }
+        ensures value { result ≡ tuple_here self.now at }
+        ensures reads { reads.new ≡ reads.old + 1 }
+    {
+        if !self.marks[usize::from(at) / MARKED_ROWS] {
+            return held_tuple(self.page, at, reads);
+        }
+        self.searched(at, reads)
+    }
+
+    // The same by a search among the changed rows.
+    fn searched<N: Ledger>(&self, at: u16, reads: &mut Steps<N>) -> Option<Tuple>
         requires { at < 3_968 }
         ensures value { result ≡ tuple_here self.now at }
         ensures reads { reads.new ≡ reads.old + 1 }

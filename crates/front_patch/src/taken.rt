@@ -13,7 +13,7 @@ ghost use Rattle.front_patch.specs.Taken.{IsTakenOver, AreGiven, table_at, patch
 
 use crate::bits::{first_row, set_changed, show_none, show_page};
 use crate::claims::{count_fallbacks, leave_each};
-use crate::page::PageAtFront;
+use crate::page::{PageAtFront, marks_of};
 use crate::patches::changed_rows;
 use crate::planned::test_of;
 use crate::row_state::{RowState, states_among};
@@ -192,6 +192,7 @@ impl<S: VersionStore> Taken<S> {
             page: held,
             first,
             changed,
+            marks: marks_of(changed, first),
         }
     }
 
