@@ -17,7 +17,8 @@ none-same column (Some r) (Some s) is = refl
 
 -- a plan restricts no column where the predicate restricts none
 pub open-plan : (p : Predicate) (plan : Plan) →
-    ((column : Column) → IsStretch column (range_of column p) (stretch_of column plan)) → planned.is_open plan ≡ is_open p
+    ((column : Column) → IsStretch column (range_of column p) (stretch_of column plan)) →
+    planned.is_open plan ≡ is_open p
 open-plan p plan are =
     let none = λ (column : Column). none-same column (range_of column p) (stretch_of column plan) (are column) in
     ap (λ b. b && is_none plan.disc && is_none plan.qty && is_none plan.flag && is_none plan.status) (none Ship)

@@ -14,7 +14,8 @@ unfolding tuples_from
 from-length table row zero = refl
 from-length table row (suc n) = ap suc (from-length table (row + 1) n)
 
-pub from-at : (table : List Row) (row n i : ℕ) → i < n → get_or (tuples_from table row n) i None ≡ tuple_at table (row + i)
+pub from-at : (table : List Row) (row n i : ℕ) → i < n →
+    get_or (tuples_from table row n) i None ≡ tuple_at table (row + i)
 unfolding tuples_from
 from-at table row zero i within = absurd (omega (arith, within))
 from-at table row (suc n) zero within = ap (tuple_at table) (omega arith)
