@@ -1,12 +1,11 @@
 -- The units that a query needs, counted.
-use Rattle.std.proofs.Common.{◌≡◌, ℕ, zero, suc, ◌+◌, ◌-◌, ◌*◌, ◌/◌, ◌<◌, ◌≤◌, ◌==◌, ◌∙◌, ◌&&◌, ◌||◌, Bool, true, false, nat_le, min, Option, Some, None, refl, sym, ap, subst, arith, inl, inr, if◌then◌else◌}
+use Rattle.std.proofs.Common.{◌≡◌, ℕ, zero, suc, ◌+◌, ◌-◌, ◌/◌, ◌<◌, ◌≤◌, ◌==◌, ◌∙◌, ◌&&◌, Bool, true, false, nat_le, min, Option, Some, None, refl, sym, ap, subst, arith, inl, inr, if◌then◌else◌}
 use Rattle.std.specs.Prelude.{nat_lt}
 use Rattle.std.proofs.lemmas.Bool.{cases_lt, and_parts, and_from, and_left, and_right, or_cases, cond-true, cond-false, eqb-true, le-leb, lt-leb, lt-ltb, le-ltb}
 use Rattle.cubit_base.specs.Predicate.{in_range}
 use Rattle.cubit_base.specs.declared.predicate.Range.{Range}
 use Rattle.cubit_base.specs.declared.predicate.Predicate.{Predicate}
 use Rattle.column_bins.specs.Column.{any_below, bin_at, bin_count, least_value, past_values}
-use Rattle.column_bins.specs.Plan as bins
 use Rattle.column_bins.specs.Plan.{range_of, stretch_of, IsStretch, in_stretch, is_met, count_below, met_count, needs_pages, unit_count}
 use Rattle.column_bins.specs.declared.column.Column.{Column}
 use Rattle.column_bins.specs.declared.column.Column.TheVariants.{Ship, Disc, Qty, Flag, Status}

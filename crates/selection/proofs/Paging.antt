@@ -1,5 +1,5 @@
 -- The rows of a page's groups, by their places and their tuples.
-use Rattle.std.proofs.Common.{◌≡◌, ℕ, zero, suc, ◌+◌, ◌*◌, ◌/◌, ◌%◌, ◌^◌, ◌<◌, ◌≤◌, ◌∙◌, ◌&&◌, not, Bool, true, false, List, [], ◌∷◌, ◌++◌, length, map, take, get_or, All, Option, Some, None, refl, sym, ap, subst, arith, cond, filter, sum_by, count_by, length-append}
+use Rattle.std.proofs.Common.{◌≡◌, ℕ, zero, suc, ◌+◌, ◌*◌, ◌/◌, ◌%◌, ◌^◌, ◌<◌, ◌∙◌, ◌&&◌, not, Bool, true, false, List, [], ◌∷◌, length, map, get_or, All, Option, Some, None, refl, sym, ap, subst, arith, cond, filter, sum_by, count_by, length-append}
 use Rattle.std.proofs.lemmas.Bool.{and_right, cond-false, false_from_ne_true, true≢false}
 use Rattle.std.proofs.lemmas.List.{ext_get_or, get_or_default, get_or-map, length-map}
 use Rattle.std.proofs.lemmas.List.Elements.{filter_passes}

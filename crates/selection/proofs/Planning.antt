@@ -1,5 +1,5 @@
 -- Plans of predicates.
-use Rattle.std.proofs.Common.{◌≡◌, ◌∙◌, ◌&&◌, Bool, true, false, Option, Some, None, is_none, refl, sym, ap}
+use Rattle.std.proofs.Common.{◌≡◌, ◌∙◌, ◌&&◌, Option, Some, None, is_none, refl, ap}
 use Rattle.cubit_base.specs.declared.predicate.Range.{Range}
 use Rattle.cubit_base.specs.declared.predicate.Predicate.{Predicate}
 use Rattle.column_bins.specs.Plan.{range_of, stretch_of, IsStretch, is_open}

@@ -3,7 +3,6 @@ use Rattle.std.specs.Prelude.{◌≡◌, ℕ, ◌+◌, ◌-◌, ◌*◌, ◌≤�
 use Rattle.std.specs.declared.alloc.AllocError.{AllocError}
 use Rattle.cubit_base.specs.Answer.{answer}
 use Rattle.cubit_base.specs.History.{after}
-use Rattle.cubit_base.specs.declared.delta.Delta.{Delta}
 use Rattle.cubit_base.specs.declared.predicate.Predicate.{Predicate}
 use Rattle.column_bins.specs.Plan.{range_of, stretch_of, IsStretch, needs_pages, unit_count}
 use Rattle.column_bins.specs.declared.column.Column.{Column}

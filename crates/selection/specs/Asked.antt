@@ -1,5 +1,5 @@
 -- Versions that were taken for a predicate.
-use Rattle.std.specs.Prelude.{◌≡◌, ℕ, ◌≤◌, Bool, List, length}
+use Rattle.std.specs.Prelude.{◌≡◌, ℕ, ◌≤◌, Bool, length}
 use Rattle.cubit_base.specs.declared.predicate.Predicate.{Predicate}
 use Rattle.column_bins.specs.Plan.{needs_pages}
 use Rattle.column_bins.specs.declared.plan_type.Plan.{Plan}

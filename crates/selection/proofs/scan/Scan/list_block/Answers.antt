@@ -1,4 +1,4 @@
-use Rattle.std.proofs.Common.{◌≡◌, ℕ, List, [], ◌+◌, ◌*◌, ◌<◌, ◌≤◌, ◌∙◌, ◌++◌, All, cond, length, map, take, sym, ap, subst, arith, count_by, append-nil, append_assoc, length-append}
+use Rattle.std.proofs.Common.{◌≡◌, ℕ, List, ◌+◌, ◌*◌, ◌<◌, ◌∙◌, ◌++◌, All, cond, length, map, take, sym, ap, subst, arith, count_by, append-nil, append_assoc, length-append}
 use Rattle.std.proofs.lemmas.List.{length-map}
 use Rattle.unit_version.specs.Content.{tuples_from}
 use Rattle.wah_words.specs.Rows.{true_places}

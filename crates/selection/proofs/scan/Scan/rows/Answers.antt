@@ -1,4 +1,4 @@
-use Rattle.std.proofs.Common.{◌≡◌, ℕ, List, ◌+◌, ◌*◌, ◌<◌, ◌≤◌, ◌∙◌, ◌++◌, cond, length, map, refl, sym, ap, arith, count_by}
+use Rattle.std.proofs.Common.{◌≡◌, ℕ, List, ◌+◌, ◌*◌, ◌≤◌, ◌∙◌, ◌++◌, cond, length, map, refl, sym, ap, arith, count_by}
 use Rattle.std.proofs.lemmas.List.{length-map}
 use Rattle.unit_version.specs.Content.{tuples_from}
 use Rattle.wah_words.specs.Rows.{true_places}

@@ -5,7 +5,7 @@ use Rattle.front_patch.specs.PageAtFront.{tuple_here}
 use Rattle.front_patch.specs.Taken.{table_at}
 use Rattle.selection.specs.Blocks.{Tells}
 use Rattle.selection.specs.Candidates.{is_candidate_at, is_match_at, is_part_at}
-use Rattle.selection.proofs.Paging.{CandidateLaws, unpacked-tells, page_places, page-below, page-count, settled-page}
+use Rattle.selection.proofs.Paging.{unpacked-tells, page_places, page-below, page-count, settled-page}
 use Rattle.selection.proofs.Scanned.{seen, kept}
 use Rattle.selection.proofs.scan.Scan.settle.Given.{Over}
 use Rattle.selection.proofs.scan.Scan.settle.Goals.{After-true_places-len}
