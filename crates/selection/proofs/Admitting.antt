@@ -1,10 +1,10 @@
 -- Rows that columns admit.
-use Rattle.std.proofs.Common.{◌≡◌, ℕ, ◌∙◌, ◌&&◌, Bool, true, false, Option, Some, None, is_none, is_some, refl, sym, ap, if◌then◌else◌}
+use Rattle.std.proofs.Common.{◌≡◌, ◌∙◌, ◌&&◌, Bool, true, false, Option, Some, None, is_none, refl, sym, ap, if◌then◌else◌}
 use Rattle.cubit_base.specs.Tuple.{TupleValue}
 use Rattle.cubit_base.specs.declared.predicate.Range.{Range}
 use Rattle.cubit_base.specs.declared.predicate.Predicate.{Predicate}
 use Rattle.column_bins.specs.Column.{tuple_bin}
-use Rattle.column_bins.specs.Plan.{range_of, IsStretch, is_open, may_match}
+use Rattle.column_bins.specs.Plan.{IsStretch, is_open, may_match}
 use Rattle.column_bins.specs.declared.column.Column.{Column}
 use Rattle.column_bins.specs.declared.column.Column.TheVariants.{Ship, Disc, Qty, Flag, Status}
 use Rattle.column_bins.specs.declared.plan_type.Stretch.{Stretch}

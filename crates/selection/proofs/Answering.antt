@@ -3,7 +3,7 @@ use Rattle.std.proofs.Common.{◌≡◌, ℕ, zero, suc, ◌+◌, ◌-◌, ◌�
 use Rattle.std.specs.List.{enumerate_from}
 use Rattle.std.proofs.lemmas.List.{map-append}
 use Rattle.std.proofs.lemmas.List.Sums.{sum_by-cons, length-filter}
-use Rattle.cubit_base.specs.Answer.{answer, is_match, row_amount, matching}
+use Rattle.cubit_base.specs.Answer.{answer, is_match, row_amount}
 use Rattle.cubit_base.specs.Table.{Row}
 use Rattle.cubit_base.specs.Tuple.{TupleValue}
 use Rattle.cubit_base.specs.declared.predicate.Predicate.{Predicate}

@@ -1,12 +1,11 @@
 -- What taking comes to, for a query.
-use Rattle.std.proofs.Common.{◌≡◌, ℕ, zero, suc, ◌+◌, ◌-◌, ◌*◌, ◌≤◌, ◌∙◌, Bool, true, false, cond, List, [], ◌∷◌, length, map, take, slice_get, get_or, count_by, Option, Some, None, IfSome, is_none, refl, sym, ap, subst, arith}
+use Rattle.std.proofs.Common.{◌≡◌, ℕ, zero, suc, ◌+◌, ◌-◌, ◌*◌, ◌≤◌, ◌∙◌, Bool, false, cond, List, [], ◌∷◌, length, map, take, slice_get, count_by, Option, Some, None, IfSome, is_none, refl, sym, ap, subst, arith}
 use Rattle.std.specs.Option.{option_map}
 use Rattle.std.proofs.lemmas.Bool.{or_right}
 use Rattle.std.proofs.lemmas.List.{length-map, take_all}
 use Rattle.std.proofs.lemmas.List.Sums.{sum_by-cons, sum_by-take-le}
-use Rattle.std.proofs.lemmas.Option.{slice_get_within, slice_get-get_or, get_or_from_slice_get}
 use Rattle.cubit_base.specs.Delta.{is_insert}
-use Rattle.cubit_base.specs.History.{after, rows_after, IsHistory}
+use Rattle.cubit_base.specs.History.{rows_after, IsHistory}
 use Rattle.cubit_base.specs.Table as table
 use Rattle.cubit_base.specs.Table.{Row}
 use Rattle.cubit_base.specs.Tuple.{TupleValue, IsTuple}
@@ -23,10 +22,10 @@ use Rattle.version_store.specs.Store.{Store, RoseBy}
 use Rattle.version_store.specs.Version.{Version}
 use Rattle.front_patch.specs.Planned.{units_of}
 use Rattle.front_patch.specs.Taken.{TakenValue, fallback_count, patched_by, table_at}
-use Rattle.front_patch.specs.Takes.{Takes, TellsEach, AreTold, pages_of}
+use Rattle.front_patch.specs.Takes.{Takes, TellsEach, AreTold}
 use Rattle.selection.specs.Answered.{IsAnswered, IsPlanOf}
 use Rattle.selection.specs.Asked.{IsAsked}
-use Rattle.selection.specs.Scan.{HasTuples, IsScan}
+use Rattle.selection.specs.Scan.{HasTuples}
 
 -- ---- versions in the place of claims
 

@@ -1,12 +1,11 @@
 -- The units that a query needs, counted.
-use Rattle.std.proofs.Common.{◌≡◌, ℕ, zero, suc, ◌+◌, ◌-◌, ◌*◌, ◌/◌, ◌<◌, ◌≤◌, ◌==◌, ◌∙◌, ◌&&◌, ◌||◌, Bool, true, false, nat_le, min, Option, Some, None, refl, sym, ap, subst, arith, inl, inr, if◌then◌else◌}
+use Rattle.std.proofs.Common.{◌≡◌, ℕ, zero, suc, ◌+◌, ◌-◌, ◌/◌, ◌<◌, ◌≤◌, ◌==◌, ◌∙◌, ◌&&◌, Bool, true, false, nat_le, min, Option, Some, None, refl, sym, ap, subst, arith, inl, inr, if◌then◌else◌}
 use Rattle.std.specs.Prelude.{nat_lt}
 use Rattle.std.proofs.lemmas.Bool.{cases_lt, and_parts, and_from, and_left, and_right, or_cases, cond-true, cond-false, eqb-true, le-leb, lt-leb, lt-ltb, le-ltb}
 use Rattle.cubit_base.specs.Predicate.{in_range}
 use Rattle.cubit_base.specs.declared.predicate.Range.{Range}
 use Rattle.cubit_base.specs.declared.predicate.Predicate.{Predicate}
 use Rattle.column_bins.specs.Column.{any_below, bin_at, bin_count, least_value, past_values}
-use Rattle.column_bins.specs.Plan as bins
 use Rattle.column_bins.specs.Plan.{range_of, stretch_of, IsStretch, in_stretch, is_met, count_below, met_count, needs_pages, unit_count}
 use Rattle.column_bins.specs.declared.column.Column.{Column}
 use Rattle.column_bins.specs.declared.column.Column.TheVariants.{Ship, Disc, Qty, Flag, Status}
@@ -64,7 +63,8 @@ count-same : (n : ℕ) (f g : ℕ → Bool) → ((b : ℕ) → f b ≡ g b) → 
 unfolding count_below
 count-same zero f g same = refl
 count-same (suc n) f g same =
-    ap (λ b. (if b then 1 else 0) + count_below n f) (same n) ∙ ap (λ k. (if g n then 1 else 0) + k) (count-same n f g same)
+    ap (λ b. (if b then 1 else 0) + count_below n f) (same n)
+    ∙ ap (λ k. (if g n then 1 else 0) + k) (count-same n f g same)
 
 count-stretch : (n : ℕ) (s : Stretch) → count_below n (in_stretch s) ≡ min n s.after - s.first
 unfolding count_below
@@ -73,7 +73,8 @@ count-stretch (suc n) s =
     let rest = count-stretch n s in
     elim (cases_lt n s.first) [
       | inl before ↦
-          let out = cond-false {A = ℕ} (in_stretch s n) 1 0 (and_left (nat_le s.first n) (nat_lt n s.after) (lt-leb s.first n before)) in
+          let out = cond-false {A = ℕ} (in_stretch s n) 1 0
+          (and_left (nat_le s.first n) (nat_lt n s.after) (lt-leb s.first n before)) in
           omega (arith, out, rest, before)
       | inr from ↦ elim (cases_lt n s.after) [
         | inl within ↦
@@ -92,7 +93,8 @@ width-met : (column : Column) (range : Option Range) (stretch : Option Stretch) 
 width-met column None stretch are = ap width_of are
 width-met column (Some r) None are = absurd are
 width-met column (Some r) (Some s) are =
-    whole ∙ sym (count-stretch (bin_count column) s) ∙ count-same (bin_count column) (in_stretch s) (is_met column r) are where
+    whole ∙ sym (count-stretch (bin_count column) s)
+    ∙ count-same (bin_count column) (in_stretch s) (is_met column r) are where
       whole : s.after - s.first ≡ min (bin_count column) s.after - s.first
       whole = elim (cases_lt s.first s.after) [
         | inl some ↦
@@ -104,10 +106,11 @@ width-met column (Some r) (Some s) are =
 
 -- ---- all units
 
-pages-met : (p : Predicate) (sum : Bool) (plan : Plan) (first rows : ℕ) → plan.pages ≡ needs_pages p sum → first ≤ rows →
-    pages_of plan first ≤ (if needs_pages p sum then (rows + 3967) / 3968 else 0)
+pages-met : (p : Predicate) (sum : Bool) (plan : Plan) (first rows : ℕ) → plan.pages ≡ needs_pages p sum →
+    first ≤ rows → pages_of plan first ≤ (if needs_pages p sum then (rows + 3967) / 3968 else 0)
 pages-met p sum plan first rows is less =
-    subst (λ b. (if b then (first + 3967) / 3968 else 0) ≤ (if needs_pages p sum then (rows + 3967) / 3968 else 0)) (sym is)
+    subst (λ b. (if b then (first + 3967) / 3968 else 0) ≤ (if needs_pages p sum then (rows + 3967) / 3968 else 0))
+    (sym is)
     (both (needs_pages p sum)) where
       both : (b : Bool) → (if b then (first + 3967) / 3968 else 0) ≤ (if b then (rows + 3967) / 3968 else 0)
       both true = omega (arith, less)
@@ -117,7 +120,8 @@ pages-met p sum plan first rows is less =
 pub planned-few : (p : Predicate) (sum : Bool) (plan : Plan) (first rows : ℕ) → IsPlanOf p sum plan → first ≤ rows →
     planned_count plan (pages_of plan first) ≤ unit_count p sum rows
 planned-few p sum plan first rows is less =
-    let width = λ (column : Column). width-met column (range_of column p) (stretch_of column plan) (is.stretches column) in
+    let width = λ (column : Column). width-met column (range_of column p) (stretch_of column plan)
+    (is.stretches column) in
     omega (
       arith,
       ap {B = ℕ} (λ b. if b then 1 else 0) (open-plan p plan is.stretches),

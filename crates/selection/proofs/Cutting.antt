@@ -1,11 +1,10 @@
 -- Rows of months that are met in part.
-use Rattle.std.proofs.Common.{◌≡◌, ℕ, ◌<◌, ◌≤◌, ◌∙◌, ◌&&◌, ◌||◌, Bool, true, false, nat_le, Option, Some, None, refl, sym, ap, subst}
+use Rattle.std.proofs.Common.{◌≡◌, ℕ, ◌∙◌, ◌||◌, true, nat_le, Option, Some, None, refl, sym, ap, subst}
 use Rattle.std.specs.Prelude.{nat_lt, IsSome}
 use Rattle.std.proofs.lemmas.Bool.{and_from, and_parts, le-leb, leb-true, lt-ltb, ltb-true}
 use Rattle.cubit_base.specs.Tuple.{TupleValue}
 use Rattle.cubit_base.specs.declared.predicate.Range.{Range}
 use Rattle.cubit_base.specs.declared.predicate.Predicate.{Predicate}
-use Rattle.column_bins.specs.Column.{tuple_bin}
 use Rattle.column_bins.specs.Month.{month_of}
 use Rattle.column_bins.specs.Plan.{IsStretch, has_part, in_stretch, is_met, is_part_of}
 use Rattle.column_bins.specs.declared.column.Column.{Column}

@@ -1,5 +1,5 @@
 -- Months, and days of them.
-use Rattle.std.proofs.Common.{◌≡◌, ℕ, zero, suc, ◌+◌, ◌<◌, ◌≤◌, ◌==◌, ◌∙◌, ◌&&◌, ◌||◌, not, Bool, true, false, nat_le, refl, sym, ap, arith}
+use Rattle.std.proofs.Common.{◌≡◌, ℕ, zero, suc, ◌+◌, ◌<◌, ◌≤◌, ◌==◌, ◌∙◌, ◌&&◌, ◌||◌, not, Bool, true, false, nat_le, refl, ap, arith}
 use Rattle.std.specs.Prelude.{nat_lt}
 use Rattle.std.proofs.lemmas.Bool.{le-leb}
 use Rattle.std.proofs.lemmas.Bool.Decides.{nat_tests}
@@ -42,7 +42,8 @@ any-either (suc n) f g h =
     ∙ mixed (f n) (g n) (h n) (any_below n (λ v. f v && h v)) (any_below n (λ v. g v && h v))
 
 -- months with a day that passes
-pub days-same : (f g : ℕ → Bool) (month : ℕ) → ((day : ℕ) → day < 2557 → f day ≡ g day) → has_day f month ≡ has_day g month
+pub days-same : (f g : ℕ → Bool) (month : ℕ) → ((day : ℕ) → day < 2557 → f day ≡ g day) →
+    has_day f month ≡ has_day g month
 days-same f g month same =
     any-same 2557 (λ day. f day && (month_of day == month)) (λ day. g day && (month_of day == month))
     (λ day within. ap (λ b. b && (month_of day == month)) (same day within))

@@ -1,5 +1,5 @@
 -- The rows of a page's groups, by their places and their tuples.
-use Rattle.std.proofs.Common.{◌≡◌, ℕ, zero, suc, ◌+◌, ◌*◌, ◌/◌, ◌%◌, ◌^◌, ◌<◌, ◌≤◌, ◌∙◌, ◌&&◌, not, Bool, true, false, List, [], ◌∷◌, ◌++◌, length, map, take, get_or, All, Option, Some, None, refl, sym, ap, subst, arith, cond, filter, sum_by, count_by, length-append}
+use Rattle.std.proofs.Common.{◌≡◌, ℕ, zero, suc, ◌+◌, ◌*◌, ◌/◌, ◌%◌, ◌^◌, ◌<◌, ◌∙◌, ◌&&◌, not, Bool, true, false, List, [], ◌∷◌, length, map, get_or, All, Option, Some, None, refl, sym, ap, subst, arith, cond, filter, sum_by, count_by, length-append}
 use Rattle.std.proofs.lemmas.Bool.{and_right, cond-false, false_from_ne_true, true≢false}
 use Rattle.std.proofs.lemmas.List.{ext_get_or, get_or_default, get_or-map, length-map}
 use Rattle.std.proofs.lemmas.List.Elements.{filter_passes}
@@ -79,8 +79,10 @@ pub page-tuples : (test : Option TupleValue → Bool) (table : List Row) (page :
     ≡ filter test (tuples_from table (3968 * page) 3968)
 page-tuples test table page =
     let none : 3968 * page + 0 ≡ 3968 * page = omega arith in
-    ap (λ row. map (λ place. tuple_at table (3968 * page + place)) (true_places 0 (map test (tuples_from table row 3968))))
-    (sym none) ∙ places-tuples test table (3968 * page) 0 3968 ∙ ap (λ row. filter test (tuples_from table row 3968)) none
+    ap (λ row. map (λ place. tuple_at table (3968 * page + place))
+    (true_places 0 (map test (tuples_from table row 3968))))
+    (sym none) ∙ places-tuples test table (3968 * page) 0 3968
+    ∙ ap (λ row. filter test (tuples_from table row 3968)) none
 
 pub page-count : (test : Option TupleValue → Bool) (table : List Row) (page : ℕ) →
     length (page_places test table page) ≡ count_by test (tuples_from table (3968 * page) 3968)
@@ -119,10 +121,12 @@ pub settled-match : (p : Predicate) (tuple : Option TupleValue) → CandidateLaw
     (is_candidate_at p tuple && not (is_part_at p tuple && not (is_match_at p tuple))) ≡ is_match_at p tuple
 settled-match p None laws fits = refl
 settled-match p (Some t) laws fits =
-    settled (is_candidate p t) (is_in_part p t) (matches p t) (laws.all p t (fits t refl)) (laws.exact p t (fits t refl))
+    settled (is_candidate p t) (is_in_part p t) (matches p t) (laws.all p t (fits t refl))
+    (laws.exact p t (fits t refl))
 
 -- a page from which the candidates were dropped that do not match
-pub settled-page : (p : Predicate) (table : List Row) (page : ℕ) (here : ℕ → Option TupleValue) (old new places : List ℕ) →
+pub settled-page : (p : Predicate) (table : List Row) (page : ℕ) (here : ℕ → Option TupleValue)
+    (old new places : List ℕ) →
     CandidateLaws → HasTuples table → length old ≡ 128 → length new ≡ 128 → All (λ group. group < 2 ^ 31) new →
     ((at : ℕ) → at < 3968 → here at ≡ tuple_at table (3968 * page + at)) → Tells (is_candidate_at p) table page old →
     places ≡ page_places (is_part_at p) table page →
@@ -235,7 +239,8 @@ page-adds p table page here places before now laws fits tuples are adds =
     let candidate = is_candidate_at p in
     let same : map here places ≡ filter candidate ts =
     ap (map here) are
-    ∙ map-same here (λ at. tuple_at table (3968 * page + at)) (λ at. at < 3968) (page_places candidate table page) tuples
+    ∙ map-same here (λ at. tuple_at table (3968 * page + at)) (λ at. at < 3968) (page_places candidate table page)
+    tuples
     (page-below candidate table page)
     ∙ page-tuples candidate table page in
     let fit = fits-at table (3968 * page) 3968 fits in

@@ -1,7 +1,6 @@
 -- Candidates whose day decides.
-use Rattle.std.proofs.Common.{◌≡◌, ℕ, zero, suc, ◌+◌, ◌<◌, ◌≤◌, ◌∙◌, ◌||◌, Bool, true, false, nat_le, Option, Some, None, refl, arith, inl, inr, if◌then◌else◌}
+use Rattle.std.proofs.Common.{◌≡◌, ℕ, zero, suc, ◌<◌, ◌≤◌, Bool, true, false, nat_le, Option, Some, None, refl, arith, inl, inr, if◌then◌else◌}
 use Rattle.std.proofs.lemmas.Bool.{cases_lt, or_parts}
-use Rattle.cubit_base.specs.Tuple.{TupleValue}
 use Rattle.cubit_base.specs.declared.predicate.Range.{Range}
 use Rattle.column_bins.specs.Month.{month_of, month_by, month_start}
 use Rattle.column_bins.specs.Column.{any_below}

@@ -1,9 +1,8 @@
 -- The places of true rows.
-use Rattle.std.proofs.Common.{◌≡◌, ℕ, zero, suc, ◌+◌, ◌-◌, ◌*◌, ◌==◌, ◌<◌, ◌≤◌, ◌∙◌, ◌||◌, Bool, true, false, cond, List, [], ◌∷◌, ◌++◌, length, map, get_or, All, Option, Some, None, refl, sym, ap, arith, filter, sum_by, count_by}
+use Rattle.std.proofs.Common.{◌≡◌, ℕ, zero, suc, ◌+◌, ◌<◌, ◌≤◌, ◌∙◌, ◌||◌, Bool, true, false, cond, List, [], ◌∷◌, ◌++◌, length, map, get_or, All, Option, refl, sym, ap, arith, filter}
 use Rattle.std.proofs.lemmas.Bool.{eq-eqb, ne_eqb}
 use Rattle.std.proofs.lemmas.List.{length-map, map-append}
 use Rattle.std.proofs.lemmas.List.Elements.{All-nil, All-cons}
-use Rattle.std.proofs.lemmas.List.Sums.{sum_by-cons}
 use Rattle.cubit_base.specs.Table.{Row}
 use Rattle.cubit_base.specs.Tuple.{TupleValue}
 use Rattle.cubit_base.specs.LiveRow.{tuple_at}
@@ -14,7 +13,9 @@ use Rattle.selection.proofs.Tuples.{from-add, from-length}
 pub places-append : (first : ℕ) (a b : List Bool) →
     true_places first (a ++ b) ≡ true_places first a ++ true_places (first + length a) b
 unfolding true_places
-places-append first [] b = let here : first ≡ first + length {A = Bool} [] = omega arith in ap (λ n. true_places n b) here
+places-append first [] b =
+    let here : first ≡ first + length {A = Bool} [] = omega arith in
+    ap (λ n. true_places n b) here
 places-append first (true ∷ a) b =
     let next : first + 1 + length a ≡ first + length (true ∷ a) = omega arith in
     ap (λ ps. first ∷ ps) (places-append (first + 1) a b ∙ ap (λ n. true_places (first + 1) a ++ true_places n b) next)
@@ -50,16 +51,19 @@ places-tuples test table row first zero = refl
 places-tuples test table row first (suc n) =
     let here = row + first in
     let next : row + (first + 1) ≡ here + 1 = omega arith in
-    let rest : map (λ place. tuple_at table (row + place)) (true_places (first + 1) (map test (tuples_from table (here + 1) n)))
+    let rest : map (λ place. tuple_at table (row + place))
+    (true_places (first + 1) (map test (tuples_from table (here + 1) n)))
     ≡ filter test (tuples_from table (here + 1) n) =
-    ap (λ k. map (λ place. tuple_at table (row + place)) (true_places (first + 1) (map test (tuples_from table k n)))) (sym next)
+    ap (λ k. map (λ place. tuple_at table (row + place))
+    (true_places (first + 1) (map test (tuples_from table k n)))) (sym next)
     ∙ places-tuples test table row (first + 1) n
     ∙ ap (λ k. filter test (tuples_from table k n)) next in
     kept (test (tuple_at table here)) (true_places (first + 1) (map test (tuples_from table (here + 1) n)))
     (filter test (tuples_from table (here + 1) n)) rest where
       kept : (b : Bool) (ps : List ℕ) (ts : List (Option TupleValue)) →
           map (λ place. tuple_at table (row + place)) ps ≡ ts →
-          map (λ place. tuple_at table (row + place)) (cond b (first ∷ ps) ps) ≡ cond b (tuple_at table (row + first) ∷ ts) ts
+          map (λ place. tuple_at table (row + place)) (cond b (first ∷ ps) ps)
+          ≡ cond b (tuple_at table (row + first) ∷ ts) ts
       kept true ps ts same = ap (λ xs. tuple_at table (row + first) ∷ xs) same
       kept false ps ts same = same
 

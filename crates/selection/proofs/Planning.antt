@@ -1,5 +1,5 @@
 -- Plans of predicates.
-use Rattle.std.proofs.Common.{◌≡◌, ◌∙◌, ◌&&◌, Bool, true, false, Option, Some, None, is_none, refl, sym, ap}
+use Rattle.std.proofs.Common.{◌≡◌, ◌∙◌, ◌&&◌, Option, Some, None, is_none, refl, ap}
 use Rattle.cubit_base.specs.declared.predicate.Range.{Range}
 use Rattle.cubit_base.specs.declared.predicate.Predicate.{Predicate}
 use Rattle.column_bins.specs.Plan.{range_of, stretch_of, IsStretch, is_open}
@@ -17,7 +17,8 @@ none-same column (Some r) (Some s) is = refl
 
 -- a plan restricts no column where the predicate restricts none
 pub open-plan : (p : Predicate) (plan : Plan) →
-    ((column : Column) → IsStretch column (range_of column p) (stretch_of column plan)) → planned.is_open plan ≡ is_open p
+    ((column : Column) → IsStretch column (range_of column p) (stretch_of column plan)) →
+    planned.is_open plan ≡ is_open p
 open-plan p plan are =
     let none = λ (column : Column). none-same column (range_of column p) (stretch_of column plan) (are column) in
     ap (λ b. b && is_none plan.disc && is_none plan.qty && is_none plan.flag && is_none plan.status) (none Ship)

@@ -1,10 +1,10 @@
 -- Rows of groups, bit by bit.
-use Rattle.std.proofs.Common.{◌≡◌, ◌≢◌, ℕ, zero, suc, ◌+◌, ◌-◌, ◌*◌, ◌/◌, ◌%◌, ◌^◌, ◌==◌, ◌<◌, ◌≤◌, ◌∙◌, ◌&&◌, ◌||◌, not, Bool, true, false, eqb, List, length, get_or, All, refl, sym, ap, arith, inl, inr, max, min}
+use Rattle.std.proofs.Common.{◌≡◌, ℕ, zero, suc, ◌-◌, ◌*◌, ◌/◌, ◌%◌, ◌^◌, ◌==◌, ◌<◌, ◌≤◌, ◌∙◌, ◌&&◌, ◌||◌, not, Bool, true, false, eqb, List, length, get_or, refl, sym, ap, arith, inl, inr, max, min}
 use Rattle.std.specs.Prelude.{bit_and, bit_or}
 use Rattle.std.specs.Int.{bit_at, w32}
 use Rattle.std.proofs.lemmas.Bool.{cases_eq, cases_lt, eq-eqb, ne_eqb}
-use Rattle.std.proofs.lemmas.List.{get_or_past, get_or_default, get_or-set_same, get_or-set_other}
-use Rattle.std.proofs.lemmas.Nat.{pow_below, and_le_l, or_lt}
+use Rattle.std.proofs.lemmas.List.{get_or_past}
+use Rattle.std.proofs.lemmas.Nat.{pow_below}
 use Rattle.std.proofs.lemmas.Nat.Bits.{bit_at-lt, bit_at-zero, bit_at_and, bit_at_or, bit_at_not, bit_at-pow_same, bit_at-pow_other, bit_at_ones}
 use Rattle.wah_words.specs.Group.{group_row}
 use Rattle.front_patch.specs.Bits.{row_in}

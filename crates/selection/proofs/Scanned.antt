@@ -1,5 +1,5 @@
 -- What a scan is of, as its fields have it and as its callers see it.
-use Rattle.std.proofs.Common.{◌≡◌, sym, ap, subst}
+use Rattle.std.proofs.Common.{◌≡◌, sym, subst}
 use Rattle.cubit_base.specs.declared.predicate.Predicate.{Predicate}
 use Rattle.front_patch.specs.Taken.{TakenValue}
 use Rattle.selection.specs.Scan.{ScanValue}

@@ -1,7 +1,5 @@
 -- The tuples of a table, row after row.
-use Rattle.std.proofs.Common.{◌≡◌, ℕ, zero, suc, ◌+◌, ◌-◌, ◌*◌, ◌<◌, ◌≤◌, ◌∙◌, Bool, true, false, cond, List, [], ◌∷◌, ◌++◌, length, map, replicate, get_or, All, Option, Some, None, refl, sym, ap, arith, filter, sum_by, count_by}
-use Rattle.std.proofs.lemmas.List.{map-append}
-use Rattle.std.proofs.lemmas.List.Elements.{All-nil, All-cons}
+use Rattle.std.proofs.Common.{◌≡◌, ℕ, zero, suc, ◌+◌, ◌-◌, ◌*◌, ◌<◌, ◌≤◌, ◌∙◌, Bool, true, false, cond, List, [], ◌∷◌, ◌++◌, length, map, replicate, get_or, All, Option, None, refl, sym, ap, arith, filter, sum_by, count_by}
 use Rattle.std.proofs.lemmas.List.Folds.{sum_by-replicate}
 use Rattle.std.proofs.lemmas.List.Sums.{sum_by-append, sum_by-cons, count_by-le-length}
 use Rattle.cubit_base.specs.Table.{Row}
@@ -14,7 +12,8 @@ unfolding tuples_from
 from-length table row zero = refl
 from-length table row (suc n) = ap suc (from-length table (row + 1) n)
 
-pub from-at : (table : List Row) (row n i : ℕ) → i < n → get_or (tuples_from table row n) i None ≡ tuple_at table (row + i)
+pub from-at : (table : List Row) (row n i : ℕ) → i < n →
+    get_or (tuples_from table row n) i None ≡ tuple_at table (row + i)
 unfolding tuples_from
 from-at table row zero i within = absurd (omega (arith, within))
 from-at table row (suc n) zero within = ap (tuple_at table) (omega arith)

@@ -3,7 +3,6 @@ use Rattle.std.specs.Prelude.{◌≡◌, ℕ, ◌+◌, ◌-◌, ◌*◌, ◌≤�
 use Rattle.std.specs.declared.alloc.AllocError.{AllocError}
 use Rattle.cubit_base.specs.Answer.{answer}
 use Rattle.cubit_base.specs.History.{after}
-use Rattle.cubit_base.specs.declared.delta.Delta.{Delta}
 use Rattle.cubit_base.specs.declared.predicate.Predicate.{Predicate}
 use Rattle.column_bins.specs.Plan.{range_of, stretch_of, IsStretch, needs_pages, unit_count}
 use Rattle.column_bins.specs.declared.column.Column.{Column}
@@ -30,8 +29,8 @@ pub record IsPlanOf (p : Predicate) (sum : Bool) (plan : Plan) : Type 0 where
 abbrev pub units_at : Plan → Front → List IndexUnit
 units_at plan front = units_of plan (pages_of plan front.rows)
 
--- a query is answered at the front of all that was seen in the end; what the units of its plan at a first front held was
--- brought there by so many deltas
+-- a query is answered at the front of all that was seen in the end; what the units of its plan at a first front held
+-- was brought there by so many deltas
 pub record IsAnswered (terms : Terms) (p : Predicate) (sum : Bool) (tries : ℕ) (handle : Handle) (store : Store)
     (later : Handle) (now : Store) (front : Front) (patched : ℕ) : Type 0 where
   pub whole : IsWhole terms later.seen front

@@ -1,5 +1,5 @@
 -- Versions that were taken for a predicate.
-use Rattle.std.specs.Prelude.{◌≡◌, ℕ, ◌≤◌, Bool, List, length}
+use Rattle.std.specs.Prelude.{◌≡◌, ℕ, ◌≤◌, Bool, length}
 use Rattle.cubit_base.specs.declared.predicate.Predicate.{Predicate}
 use Rattle.column_bins.specs.Plan.{needs_pages}
 use Rattle.column_bins.specs.declared.plan_type.Plan.{Plan}
@@ -23,4 +23,5 @@ pub record IsAsked {Claim : Type 0} (terms : Terms) (p : Predicate) (sum : Bool)
   pub few : taken.front.rows ≤ 16_777_216
   pub given : AreGiven gave taken.claims
   pub lent : now.lent ≡ claim_count taken.claims
-  pub answered : IsAnswered terms p sum tries handle store later (record now { lent = 0 }) taken.front (patched_by taken)
+  pub answered : IsAnswered terms p sum tries handle store later (record now { lent = 0 }) taken.front
+      (patched_by taken)

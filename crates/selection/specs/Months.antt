@@ -1,5 +1,5 @@
 -- The months in which a range begins and ends.
-use Rattle.std.specs.Prelude.{◌≡◌, ℕ, ◌==◌, Bool, true, ◌&&◌, ◌||◌, nat_lt}
+use Rattle.std.specs.Prelude.{◌≡◌, ℕ, ◌==◌, Bool, true, ◌&&◌, ◌||◌}
 use Rattle.cubit_base.specs.declared.predicate.Range.{Range}
 use Rattle.column_bins.specs.Month.{month_of}
 use Rattle.column_bins.specs.Column.{past_values, any_below}

@@ -1,5 +1,5 @@
 -- What tuples add up to.
-use Rattle.std.specs.Prelude.{◌≡◌, ℕ, ◌+◌, List, count_by, sum_by, Option}
+use Rattle.std.specs.Prelude.{◌≡◌, ◌+◌, List, count_by, sum_by, Option}
 use Rattle.cubit_base.specs.Tuple.{TupleValue}
 use Rattle.cubit_base.specs.declared.predicate.Predicate.{Predicate}
 use Rattle.cubit_base.specs.declared.table.Totals.{Totals}

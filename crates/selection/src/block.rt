@@ -1,4 +1,6 @@
 //! The rows of 32 pages that a query looks at.
+ghost use Rattle.std.specs.Prelude.{◌≡◌};
+
 use fence_window::{BLOCK_GROUPS, PAGE_ROWS};
 
 /// How many pages a block has.
@@ -27,7 +29,9 @@ pub(crate) struct Block {
 
 impl Block {
     /// Of no rows yet.
-    pub(crate) fn new() -> Block {
+    pub(crate) fn new() -> Block
+        ensures { result.first ≡ 0 }
+    {
         Block {
             first: 0,
             candidates: [0; BLOCK_GROUPS],

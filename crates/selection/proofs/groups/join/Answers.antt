@@ -1,4 +1,4 @@
-use Rattle.std.proofs.Common.{◌≡◌, ◌<◌, ◌||◌, get_or, refl, arith}
+use Rattle.std.proofs.Common.{◌<◌, ◌||◌, get_or, refl, arith}
 use Rattle.std.specs.Prelude.{bit_or}
 use Rattle.std.proofs.lemmas.List.{get_or_default}
 use Rattle.std.proofs.lemmas.Nat.{or_lt}
@@ -21,4 +21,5 @@ returns-clause-small c k d within =
 pub returns-clause-rows : goal.returns-clause-rows
 returns-clause-rows c =
     rows-by bit_or ◌||◌ c.args.groups.now c.args.others.now c.loop-i.groups refl row-of-or c.requires.long
-    c.loop-i.invariant.long (λ k within. c.loop-i.invariant.done k (omega (arith, within, c.loop-i.invariant.long, c.loop-i-test.false)))
+    c.loop-i.invariant.long (λ k within. c.loop-i.invariant.done k
+    (omega (arith, within, c.loop-i.invariant.long, c.loop-i-test.false)))

@@ -9,4 +9,5 @@ returns-clause-tells c test table first tells =
     let are : (i : ℕ) → i < 128 → get_or page i 0 ≡ get_or c.args.groups.now (128 * c.args.k + i) 0 =
     λ i within. grind (arith, common_steps) in
     let long : length page ≡ 128 = grind (arith, common_steps) in
-    tells-page test table first c.args.k c.args.groups.now page (omega (arith, c.requires, c.told-groups)) long are tells
+    tells-page test table first c.args.k c.args.groups.now page (omega (arith, c.requires, c.told-groups)) long are
+    tells

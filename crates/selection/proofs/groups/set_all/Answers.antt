@@ -1,4 +1,4 @@
-use Rattle.std.proofs.Common.{◌≡◌, ◌<◌, ◌/◌, ◌%◌, ◌∙◌, ℕ, get_or, ap, arith}
+use Rattle.std.proofs.Common.{◌≡◌, ◌/◌, ◌%◌, ◌∙◌, get_or, ap, arith}
 use Rattle.std.proofs.lemmas.Grind.{common_steps}
 use Rattle.wah_words.specs.Group.{group_row}
 use Rattle.selection.proofs.RowBits.{row-of-all}

@@ -1,4 +1,4 @@
-use Rattle.std.proofs.Common.{◌≡◌, ◌+◌, ◌∙◌, ◌==◌, ◌&&◌, not, sym, ap, arith, take, get_or}
+use Rattle.std.proofs.Common.{◌∙◌, ◌==◌, ◌&&◌, not, sym, ap, arith, take, get_or}
 use Rattle.std.proofs.lemmas.Bool.{eqb-true}
 use Rattle.wah_words.specs.Rows.{has}
 use Rattle.front_patch.specs.Bits.{row_in}

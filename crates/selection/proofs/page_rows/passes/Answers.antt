@@ -1,4 +1,4 @@
-use Rattle.std.proofs.Common.{◌≡◌, ◌∙◌, true, sym}
+use Rattle.std.proofs.Common.{◌∙◌, sym}
 use Rattle.cubit_base.specs.Tuple.{IsTuple}
 use Rattle.selection.proofs.Parts.{none-part}
 use Rattle.selection.proofs.page_rows.passes.Goals as goal

@@ -41,7 +41,8 @@ add_up-requires-clause-candidates g c k d within =
     (places g (goal.at.add_up-requires-clause-candidates g c).After-true_places-len) in
     let below = subst (λ (ps : List ℕ). All (λ place. place < 3968) ps) (sym are)
     (page-below (is_candidate_at p) table c.args.page) in
-    let passes = subst (λ (ps : List ℕ). All (λ place. is_candidate_at p (tuple_at table (3968 * c.args.page + place)) ≡ true) ps)
+    let passes = subst (λ (ps : List ℕ). All
+    (λ place. is_candidate_at p (tuple_at table (3968 * c.args.page + place)) ≡ true) ps)
     (sym are) (page-passes (is_candidate_at p) table c.args.page) in
     ap (is_candidate_at p) (c.page-tuples.ensures _ (below k d within)) ∙ passes k d within
 
@@ -50,7 +51,8 @@ returns-clause-totals g c =
     let terms = g.S.Log.CommitLog.terms in
     let written = take c.true_places-len.result c.true_places-len.new.out in
     seen c.self.view_is
-    (λ p taken. AddsUp p (tuples_from (table_at terms taken) (3968 * c.args.page) 3968) c.args.totals.now c.add_up.new.totals)
+    (λ p taken. AddsUp p (tuples_from (table_at terms taken) (3968 * c.args.page) 3968) c.args.totals.now
+    c.add_up.new.totals)
     (page-adds c.self.inside.predicate.now (table_at terms c.self.inside.taken.now) c.args.page
     (tuple_here c.page-tuples.result) written c.args.totals.now c.add_up.new.totals
     (record { all = c.candidates.ensures.all; exact = c.candidates.ensures.exact }) c.self.invariant.tuples

@@ -1,5 +1,5 @@
 use Rattle.std.proofs.Common.{◌&&◌}
-use Rattle.column_bins.specs.declared.column.Column.TheVariants.{Disc, Ship, Qty, Flag, Status}
+use Rattle.column_bins.specs.declared.column.Column.TheVariants.{Disc, Ship, Qty, Flag}
 use Rattle.front_patch.specs.Taken.{table_at}
 use Rattle.selection.specs.Candidates.{is_candidate_at}
 use Rattle.selection.specs.Scan.{begins_at, admits_at}

@@ -1,4 +1,4 @@
-use Rattle.std.proofs.Common.{◌≡◌, ℕ, ◌+◌, ◌*◌, ◌<◌, ◌≤◌, ◌∙◌, cond, refl, sym, ap, arith, length, count_by}
+use Rattle.std.proofs.Common.{◌≡◌, ◌+◌, ◌*◌, ◌∙◌, cond, refl, sym, ap, arith, count_by}
 use Rattle.unit_version.specs.Content.{tuples_from}
 use Rattle.front_patch.specs.Taken.{table_at}
 use Rattle.selection.specs.Candidates.{is_match_at, is_part_at}

@@ -1,4 +1,4 @@
-use Rattle.std.proofs.Common.{◌≡◌, ◌+◌, ◌*◌, ◌≤◌, count_by}
+use Rattle.std.proofs.Common.{◌≡◌, ◌+◌, ◌*◌, count_by}
 use Rattle.unit_version.specs.Content.{tuples_from}
 use Rattle.front_patch.specs.Taken.{table_at}
 use Rattle.selection.specs.Candidates.{is_match_at, is_part_at}

@@ -1,7 +1,5 @@
-use Rattle.std.proofs.Common.{◌≡◌, ℕ, ◌+◌, ◌*◌, ◌≤◌, ◌∙◌, cond, sym, ap, arith, count_by}
-use Rattle.cubit_base.specs.LiveRow.{tuple_at}
+use Rattle.std.proofs.Common.{◌≡◌, ◌+◌, ◌*◌, ◌∙◌, cond, sym, arith, count_by}
 use Rattle.unit_version.specs.Content.{tuples_from}
-use Rattle.wah_words.specs.Group.{unpacked}
 use Rattle.front_patch.specs.Taken.{table_at}
 use Rattle.selection.specs.Candidates.{is_match_at, is_part_at}
 use Rattle.selection.proofs.Paging.{page-true}

@@ -1,4 +1,4 @@
-use Rattle.std.proofs.Common.{◌≡◌, ℕ, List, [], ◌+◌, ◌*◌, ◌<◌, ◌≤◌, ◌∙◌, ◌++◌, All, cond, length, map, take, sym, ap, subst, arith, count_by, append-nil, append_assoc, length-append}
+use Rattle.std.proofs.Common.{◌≡◌, ℕ, List, ◌+◌, ◌*◌, ◌<◌, ◌∙◌, ◌++◌, All, cond, length, map, take, sym, ap, subst, arith, count_by, append-nil, append_assoc, length-append}
 use Rattle.std.proofs.lemmas.List.{length-map}
 use Rattle.unit_version.specs.Content.{tuples_from}
 use Rattle.wah_words.specs.Rows.{true_places}
@@ -104,13 +104,15 @@ loop-k-preserved g c =
       few = omega (arith, c.loop-k-test.true);
       list =
           c.in_ok-push_rows.ensures
-          ∙ ap (λ (xs : List ℕ). xs ++ map (λ place. here + place) (take c.true_places-len.result c.true_places-len.new.out))
+          ∙ ap (λ (xs : List ℕ). xs ++ map (λ place. here + place)
+          (take c.true_places-len.result c.true_places-len.new.out))
           c.loop-k.invariant.list
           ∙ ap (λ (ps : List ℕ). (c.args.list.now ++ old) ++ map (λ place. here + place) ps) (places g at)
           ∙ ap (λ (ps : List ℕ). (c.args.list.now ++ old) ++ ps)
           (places-shift here 0 page ∙ ap (λ n. true_places n page) none)
           ∙ append_assoc c.args.list.now old (true_places here page)
-          ∙ ap (λ (ps : List ℕ). c.args.list.now ++ ps) (sym (ap (λ n. true_places row (map test (tuples_from table row n))) more
+          ∙ ap (λ (ps : List ℕ). c.args.list.now ++ ps)
+          (sym (ap (λ n. true_places row (map test (tuples_from table row n))) more
           ∙ places-more test table row (3968 * c.loop-k.k) 3968 here next));
       reads = reads-more g at;
     }

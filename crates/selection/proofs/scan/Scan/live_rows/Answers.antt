@@ -1,4 +1,4 @@
-use Rattle.std.proofs.Common.{◌≡◌, ◌+◌, ◌*◌, ◌<◌, ◌∙◌, ◌-◌, true, refl, sym, ap, arith, inl, inr, map, get_or, Contains, is_some}
+use Rattle.std.proofs.Common.{◌≡◌, ◌+◌, ◌*◌, ◌<◌, ◌∙◌, ◌-◌, true, refl, sym, ap, arith, inl, inr, map, get_or, is_some}
 use Rattle.std.proofs.lemmas.Bool.{cases_lt}
 use Rattle.unit_version.specs.Content.{is_live}
 use Rattle.wah_words.specs.Group.{group_at}

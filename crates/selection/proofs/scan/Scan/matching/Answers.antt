@@ -1,4 +1,4 @@
-use Rattle.std.proofs.Common.{◌≡◌, ℕ, ◌+◌, ◌*◌, ◌<◌, ◌∙◌, ◌&&◌, true, false, refl, sym, ap, arith, count_by}
+use Rattle.std.proofs.Common.{◌≡◌, ℕ, ◌+◌, ◌*◌, ◌<◌, ◌∙◌, ◌&&◌, true, false, refl, sym, arith, count_by}
 use Rattle.cubit_base.specs.LiveRow.{tuple_at}
 use Rattle.cubit_base.specs.declared.predicate.Predicate.{Predicate}
 use Rattle.column_bins.specs.Plan.{has_part}
@@ -91,7 +91,8 @@ settle-requires-clause-rows g c = candidates g (goal.at.settle-requires-clause-r
 -- none of them where none is true
 none-part : (g : Over) (c : After-keep g) → ((row : ℕ) → row_in c.keep.new.groups row ≡ false) → (row : ℕ) →
     row < 3968 → is_part_at c.args.self.now.predicate
-    (tuple_at (table_at g.S.Log.CommitLog.terms c.args.self.now.taken) (3968 * (c.args.block.now.first + c.args.k) + row))
+    (tuple_at (table_at g.S.Log.CommitLog.terms c.args.self.now.taken)
+    (3968 * (c.args.block.now.first + c.args.k) + row))
     ≡ false
 none-part g c empty row within =
     sym ((part g c).each row (omega (arith, within, c.keep.auto.groups, c.page_of-part.ensures.long))) ∙ empty row

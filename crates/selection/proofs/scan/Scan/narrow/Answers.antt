@@ -1,14 +1,8 @@
-use Rattle.std.proofs.Common.{◌≡◌, ◌∙◌, ◌&&◌, Contains, Some, None, false, sym, ap, subst}
-use Rattle.std.proofs.lemmas.Bool.{and_left}
-use Rattle.cubit_base.specs.LiveRow.{tuple_at}
-use Rattle.column_bins.specs.Plan.{range_of, stretch_of, IsStretch}
+use Rattle.std.proofs.Common.{◌∙◌, Contains, sym, ap}
+use Rattle.column_bins.specs.Plan.{stretch_of}
 use Rattle.unit_version.specs.declared.unit.Unit.TheVariants.{Bin}
 use Rattle.front_patch.specs.Planned.{units_of}
-use Rattle.front_patch.specs.Taken.{table_at}
-use Rattle.selection.specs.Scan.{has_bin_at, admits_at}
-use Rattle.selection.proofs.Admitting.{admits-free, admits-stretch}
 use Rattle.selection.proofs.Scanned.{seen}
-use Rattle.selection.proofs.Telling.{tells-same, tells-both}
 use Rattle.selection.proofs.scan.Scan.narrow.Goals as goal
 
 pub stretch-requires : goal.stretch-requires

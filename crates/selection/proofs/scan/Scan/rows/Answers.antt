@@ -1,4 +1,4 @@
-use Rattle.std.proofs.Common.{◌≡◌, ℕ, List, ◌+◌, ◌*◌, ◌<◌, ◌≤◌, ◌∙◌, ◌++◌, cond, length, map, refl, sym, ap, arith, count_by}
+use Rattle.std.proofs.Common.{◌≡◌, ℕ, List, ◌+◌, ◌*◌, ◌≤◌, ◌∙◌, ◌++◌, cond, length, map, refl, sym, ap, arith, count_by}
 use Rattle.std.proofs.lemmas.List.{length-map}
 use Rattle.unit_version.specs.Content.{tuples_from}
 use Rattle.wah_words.specs.Rows.{true_places}
@@ -69,9 +69,11 @@ loop-n-preserved g c =
     record {
       list =
           c.in_ok-list_block.ensures.list
-          ∙ ap (λ first. c.loop-n.list ++ true_places (3968 * first) (map test (tuples_from table (3968 * first) 126976)))
+          ∙ ap (λ first. c.loop-n.list ++ true_places (3968 * first)
+          (map test (tuples_from table (3968 * first) 126976)))
           c.read.ensures.first
-          ∙ ap (λ (xs : List ℕ). xs ++ true_places here (map test (tuples_from table here 126976))) c.loop-n.invariant.list
+          ∙ ap (λ (xs : List ℕ). xs ++ true_places here (map test (tuples_from table here 126976)))
+          c.loop-n.invariant.list
           ∙ sym (ap (λ n. true_places 0 (map test (tuples_from table 0 n))) more
           ∙ places-more test table 0 (126976 * c.loop-n.n) 126976 here next);
       reads = reads-more g (goal.at.loop-n-preserved g c).After-list_block;

@@ -5,7 +5,7 @@ use Rattle.front_patch.specs.PageAtFront.{tuple_here}
 use Rattle.front_patch.specs.Taken.{table_at}
 use Rattle.selection.specs.Blocks.{Tells}
 use Rattle.selection.specs.Candidates.{is_candidate_at, is_match_at, is_part_at}
-use Rattle.selection.proofs.Paging.{CandidateLaws, unpacked-tells, page_places, page-below, page-count, settled-page}
+use Rattle.selection.proofs.Paging.{unpacked-tells, page_places, page-below, page-count, settled-page}
 use Rattle.selection.proofs.Scanned.{seen, kept}
 use Rattle.selection.proofs.scan.Scan.settle.Given.{Over}
 use Rattle.selection.proofs.scan.Scan.settle.Goals.{After-true_places-len}
@@ -20,11 +20,13 @@ drop_others-requires-clause-small g c = c.requires.rows.small
 pub page-tuples-requires-clause-pages : goal.page-tuples-requires-clause-pages
 page-tuples-requires-clause-pages g c =
     let is = c.self.invariant in
-    ap (λ plan. plan.pages) is.plan_is ∙ is.pages (kept c.self.view_is (λ p taken. has_part p.ship ≡ true) c.requires.cuts)
+    ap (λ plan. plan.pages) is.plan_is ∙ is.pages
+    (kept c.self.view_is (λ p taken. has_part p.ship ≡ true) c.requires.cuts)
 
 -- the places that are written
 places : (g : Over) (c : After-true_places-len g) → take c.true_places-len.result c.true_places-len.new.out
-    ≡ page_places (is_part_at c.args.self.now.predicate) (table_at g.S.Log.CommitLog.terms c.args.self.now.taken) c.args.page
+    ≡ page_places (is_part_at c.args.self.now.predicate) (table_at g.S.Log.CommitLog.terms c.args.self.now.taken)
+    c.args.page
 places g c =
     c.true_places-len.ensures.places
     ∙ ap (true_places 0)
@@ -35,7 +37,8 @@ pub drop_others-requires-clause-places : goal.drop_others-requires-clause-places
 drop_others-requires-clause-places g c =
     subst (λ (ps : List ℕ). All (λ place. place < 3968) ps)
     (sym (places g (goal.at.drop_others-requires-clause-places g c).After-true_places-len))
-    (page-below (is_part_at c.args.self.now.predicate) (table_at g.S.Log.CommitLog.terms c.args.self.now.taken) c.args.page)
+    (page-below (is_part_at c.args.self.now.predicate) (table_at g.S.Log.CommitLog.terms c.args.self.now.taken)
+    c.args.page)
 
 pub returns-clause-rows : goal.returns-clause-rows
 returns-clause-rows g c =
@@ -47,7 +50,8 @@ returns-clause-rows g c =
     (tuple_here c.page-tuples.result) c.args.rows.now c.drop_others.new.rows written
     (record { all = c.candidates.ensures.all; exact = c.candidates.ensures.exact }) c.self.invariant.tuples
     c.told-rows c.drop_others.array_long c.drop_others.ensures.small c.page-tuples.ensures
-    (kept c.self.view_is (λ p taken. Tells (is_candidate_at p) (table_at terms taken) page c.args.rows.now) c.requires.rows)
+    (kept c.self.view_is (λ p taken. Tells (is_candidate_at p) (table_at terms taken) page c.args.rows.now)
+    c.requires.rows)
     (kept c.self.view_is (λ p taken. written ≡ page_places (is_part_at p) (table_at terms taken) page)
     (places g (goal.at.returns-clause-rows g c).After-true_places-len))
     c.drop_others.ensures.rows)

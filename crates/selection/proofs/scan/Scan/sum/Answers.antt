@@ -1,5 +1,4 @@
-use Rattle.std.proofs.Common.{◌≡◌, ℕ, ◌+◌, ◌*◌, ◌≤◌, ◌∙◌, cond, refl, sym, ap, arith}
-use Rattle.unit_version.specs.Content.{tuples_from}
+use Rattle.std.proofs.Common.{◌+◌, ◌*◌, ◌∙◌, cond, refl, sym, ap, arith}
 use Rattle.front_patch.specs.Taken.{table_at}
 use Rattle.selection.specs.Candidates.{is_candidate_at, is_match_at, amount_at}
 use Rattle.selection.proofs.Answering.{answer-count, answer-sum}

@@ -1,4 +1,4 @@
-use Rattle.std.proofs.Common.{◌≡◌, ◌+◌, ◌∙◌, ◌++◌, [], ◌∷◌, ap, sym, map, take, List}
+use Rattle.std.proofs.Common.{◌∙◌, ◌++◌, [], ◌∷◌, ap, sym, map, take}
 use Rattle.std.proofs.lemmas.List.{map-append}
 use Rattle.unit_version.specs.Content.{is_in_bins}
 use Rattle.selection.proofs.Copying.{take-get}

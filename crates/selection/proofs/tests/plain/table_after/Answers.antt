@@ -1,4 +1,4 @@
-use Rattle.std.proofs.Common.{◌≡◌, ◌+◌, ◌∙◌, ◌++◌, [], ◌∷◌, ap, sym, arith, take, length, List}
+use Rattle.std.proofs.Common.{◌∙◌, ◌++◌, [], ◌∷◌, ap, sym, arith, length, List}
 use Rattle.std.proofs.lemmas.List.{take_all, length-take}
 use Rattle.cubit_base.specs.Table.{Row}
 use Rattle.cubit_base.specs.Delta.{applied}
