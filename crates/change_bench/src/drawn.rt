@@ -20,7 +20,10 @@ impl Drawn {
         let mut state = 1u64;
         for _ in 0..ROWS {
             let row = next(&mut state) % table.len().max(1);
-            if let Some((key, Some(tuple))) = table.row(row) {
+            let Some((key, tuple)) = table.row(row) else {
+                continue;
+            };
+            if let Some(tuple) = tuple {
                 rows.push((key, tuple))?;
             }
         }

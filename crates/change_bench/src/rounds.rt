@@ -49,7 +49,7 @@ pub(crate) fn measured<R: Clock + Eprint + AllocGlobal>(
     bytes: Vec<u8>,
     work: Work,
 ) -> io::Result<u64>
-    requires { length bytes ≤ u32.MAX }
+    requires { length bytes.items ≤ u32.MAX }
 {
     laws::live_rows();
     let Ok(table) = base_of(rt.alloc(), &bytes, ROW_LIMIT) else {
@@ -98,7 +98,9 @@ fn session<S: Setup, N: Ledger, R: Clock + Eprint + AllocGlobal>(
     let mut log = SerialLog::<S>::make(alloc, base.rows(), MOST_UPDATES, limits)?;
     let mut store = MemoryStore::make(alloc, &base, &mut log)?;
     eprintln!(rt; "begin")?;
-    run(rt, &mut log, &mut store, &base, &mut drawn, work, &mut steps)
+    run(
+        rt, &mut log, &mut store, &base, &mut drawn, work, &mut steps,
+    )
 }
 
 // All rounds, and then a checksum.
