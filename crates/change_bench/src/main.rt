@@ -28,6 +28,8 @@ mod calls;
 mod checksum;
 mod drawn;
 mod rounds;
+#[cfg(test)]
+mod tests;
 
 use cubit_io::{DiskFiles, read_all};
 use rounds::{Work, measured};
