@@ -55,7 +55,8 @@ impl Drawn {
     }
 }
 
-fn next(state: &mut u64) -> u32 {
+/// The next number of a fixed sequence.
+pub(crate) fn next(state: &mut u64) -> u32 {
     *state = state
         .wrapping_mul(6_364_136_223_846_793_005)
         .wrapping_add(1_442_695_040_888_963_407);

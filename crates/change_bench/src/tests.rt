@@ -3,7 +3,8 @@ ghost use Rattle.std.specs.Prelude.{◌≡◌, ◌≤◌, ◌<◌, length};
 ghost use Rattle.cubit_base.specs.LiveRow.{HasDistinctLiveKeys};
 ghost use Rattle.version_store.specs.Store.{IsStanding};
 
-use commit_log::{CommitLog, SerialLog, Setup};
+use crate::drawn::next;
+use commit_log::{CommitLog, Front, SerialLog, Setup};
 use cubit_base::{Flag, Key, Limits, LineStatus, Memory, ROW_LIMIT, Steps, Table, Tuple, laws};
 use merger::{MergeCount, merge_all};
 use std::alloc::Global;
@@ -52,6 +53,14 @@ fn merged(merged: u32, fresh: u32) -> Answer {
         fresh,
         busy: 0,
     })
+}
+
+fn placed(at: u32, row: u32) -> Answer {
+    Answer::Placed { at, row }
+}
+
+fn live(row: u32, tuple: Tuple) -> Answer {
+    Answer::Live(Some((row, tuple)))
 }
 
 // What one call comes to.
@@ -175,11 +184,10 @@ fn first_line(qty: u8) -> Tuple
     }
 }
 
-// Three pages of bits, one of tuples: 216 units follow one change once.
+// A table of one page has 216 units.
 #[test]
 fn all_units_follow_an_update(rt: HostRuntime) -> Result<(), Fail> {
     let first = key(1, 1);
-    let changed = Answer::Live(Some((0, first_line(18))));
     let calls = [
         Call::MergeAll,
         Call::Update(first, first_line(18)),
@@ -190,10 +198,10 @@ fn all_units_follow_an_update(rt: HostRuntime) -> Result<(), Fail> {
     ];
     let expected = [
         merged(0, 216),
-        Answer::Placed { at: 0, row: 0 },
-        changed,
+        placed(0, 0),
+        live(0, first_line(18)),
         merged(216, 0),
-        changed,
+        live(0, first_line(18)),
         merged(0, 216),
     ];
     let said = answers(&rt, THREE_LINES.as_bytes(), 0, &calls)?;
@@ -244,45 +252,34 @@ fn rows_on_a_new_page(rt: HostRuntime) -> Result<(), Fail> {
     ];
     let text = plain_lines(rt.alloc(), 3_967)?;
     let said = answers(&rt, text.as_bytes(), 2, &calls)?;
-    let full = said[4];
+    let full = Front {
+        len: 3,
+        rows: 3_969,
+        node: 3,
+    };
     let expected = [
-        Answer::Placed { at: 0, row: 0 },
+        placed(0, 0),
         merged(217, 0),
-        Answer::Placed { at: 1, row: 3_967 },
-        Answer::Placed { at: 2, row: 3_968 },
-        full,
-        Answer::Live(Some((0, twelve))),
-        Answer::Live(Some((3_968, eleven))),
+        placed(1, 3_967),
+        placed(2, 3_968),
+        Answer::Stopped(OpStop::TableFull(full)),
+        live(0, twelve),
+        live(3_968, eleven),
         merged(217, 0),
-        Answer::Live(Some((3_967, eleven))),
-        Answer::Live(Some((3_966, plain_line(10)))),
+        live(3_967, eleven),
+        live(3_966, plain_line(10)),
     ];
     assert_eq!(&rt; said.as_slice(), expected.as_slice());
-    match full {
-        Answer::Stopped(OpStop::TableFull(front)) => assert_eq!(&rt; front.len, 3),
-        _ => assert!(&rt; false),
-    }
     Ok(())
-}
-
-// The next number of a fixed sequence, below a bound.
-fn next(state: &mut u64, bound: u32) -> u32
-    requires { 1 ≤ bound }
-    ensures { result < bound }
-{
-    *state = state
-        .wrapping_mul(6_364_136_223_846_793_005)
-        .wrapping_add(1_442_695_040_888_963_407);
-    ((*state >> 33) % u64::from(bound)) as u32
 }
 
 fn drawn(state: &mut u64) -> Call {
     let key = Key {
-        order: next(state, 130) + 1,
-        line: next(state, 2) as u8 + 1,
+        order: next(state) % 130 + 1,
+        line: (next(state) % 2) as u8 + 1,
     };
-    let tuple = plain_line(next(state, 50) as u8 + 1);
-    match next(state, 8) {
+    let tuple = plain_line((next(state) % 50) as u8 + 1);
+    match next(state) % 8 {
         0 | 1 | 2 => Call::Insert(key, tuple),
         3 | 4 => Call::Update(key, tuple),
         5 => Call::Delete(key),
