@@ -199,10 +199,12 @@ static Fenced patched(const Fenced &list, const std::vector<uint32_t> &turned)
     return turned.empty() ? list.copied() : Fenced(toggled(list.bitvector, turned));
 }
 
-static std::vector<uint64_t> patched(const std::vector<uint64_t> &page, size_t first, const std::vector<RowChange> &rows)
+static std::vector<uint64_t> patched(
+    const std::vector<uint64_t> &page, size_t first, const std::vector<RowChange> &rows)
 {
     std::vector<uint64_t> out = page;
-    auto at = std::lower_bound(rows.begin(), rows.end(), first, [](const RowChange &c, size_t row) { return c.row < row; });
+    auto is_before = [](const RowChange &change, size_t row) { return change.row < row; };
+    auto at = std::lower_bound(rows.begin(), rows.end(), first, is_before);
     for (; at != rows.end() && at->row < first + PAGE_ROWS; ++at)
         out[at->row - first] = at->after;
     return out;
@@ -386,7 +388,8 @@ static uint64_t number_of(const Key &key)
     return uint64_t(key.order) * 8 + key.line;
 }
 
-static void measure_map(const std::vector<Row> &rows, const std::vector<Asked> &looks, const std::vector<Asked> &updates)
+static void measure_map(
+    const std::vector<Row> &rows, const std::vector<Asked> &looks, const std::vector<Asked> &updates)
 {
     std::unordered_map<uint64_t, Live> map;
     map.reserve(rows.size());
@@ -432,7 +435,8 @@ static bool step(sqlite3_stmt *statement, uint64_t first, uint64_t second)
 }
 
 /* The key and the tuple are a number each, which is less than any table of columns asks of it. */
-static void measure_sqlite(const std::vector<Row> &rows, const std::vector<Asked> &looks, const std::vector<Asked> &updates)
+static void measure_sqlite(
+    const std::vector<Row> &rows, const std::vector<Asked> &looks, const std::vector<Asked> &updates)
 {
     sqlite3 *data = nullptr;
     sqlite3_open(":memory:", &data);
