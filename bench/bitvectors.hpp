@@ -330,6 +330,9 @@ public:
         }
     }
 
+    /* The list once more. */
+    Fenced copied() const { return Fenced(extended(bitvector, bitvector.rows), fences); }
+
     size_t bytes() const { return bitvector.size() * sizeof(uint32_t) + fences.size() * sizeof(Place); }
 
     /* Writes the groups of a page, and 0 where there are none. */
