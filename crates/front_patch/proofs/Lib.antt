@@ -5,6 +5,7 @@ mod Keys
 mod Least
 mod Pages
 mod Patching
+mod Piles
 mod Rising
 mod Runs
 mod Sees

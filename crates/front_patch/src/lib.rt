@@ -40,6 +40,7 @@
 
 mod bits;
 mod claims;
+mod digits;
 pub mod laws;
 mod page;
 mod patches;
