@@ -5,7 +5,6 @@ mod Keys
 mod Least
 mod Pages
 mod Patching
-mod Piles
 mod Rising
 mod Runs
 mod Sees

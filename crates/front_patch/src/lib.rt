@@ -40,7 +40,6 @@
 
 mod bits;
 mod claims;
-mod digits;
 pub mod laws;
 mod page;
 mod patches;
