@@ -29,7 +29,7 @@ pub(crate) fn states_between<L: CommitLog, N: Ledger>(
     ensures steps { IfOk result (λ states. steps.new ≡ steps.old + 5 * (to.now.len - from.now.len)) }
 {
     laws::stretches();
-    let mut states = Vec::new(alloc);
+    let mut states = Vec::with_capacity(alloc, (to.len - from.len) as usize)?;
     let mut cursor = log.cursor(from);
     while let Some(entry) = log.following(&mut cursor, to, steps) {
         let delta = entry.delta;

@@ -24,10 +24,12 @@
 #![tactic(auto)]
 
 mod checksum;
+mod fronts;
 mod patches;
 mod rounds;
 
 use cubit_io::{DiskFiles, read_all};
+use fronts::{Fronts, front_times};
 use patches::{Patches, patched_times};
 use rounds::{Report, measured};
 use std::process::ExitCode;
@@ -57,6 +59,10 @@ fn main(rt: HostRuntime) -> io::Result<ExitCode> {
     if let [_, _, option] = words.as_slice() {
         if option.as_str() == "--patches" {
             tell_patches(&rt, &patched_times(&rt, &bytes, rounds)?)?;
+            return Ok(ExitCode::SUCCESS);
+        }
+        if option.as_str() == "--fronts" {
+            tell_fronts(&rt, &front_times(&rt, &bytes, rounds)?)?;
             return Ok(ExitCode::SUCCESS);
         }
     }
@@ -107,6 +113,21 @@ fn tell_patches<R: Print>(rt: &R, times: &[Patches]) -> io::Result<()> {
             one.bits.as_micros(),
             one.pages.as_micros(),
             one.keys.as_micros()
+        )?;
+    }
+    Ok(())
+}
+
+// Tells how long it takes to see a bin at a front, in nanoseconds.
+fn tell_fronts<R: Print>(rt: &R, times: &[Fronts]) -> io::Result<()> {
+    for one in times {
+        println!(rt;
+            "deltas={} take={} stretch={} words={} sum={}",
+            one.deltas,
+            one.take.as_nanos(),
+            one.stretch.as_nanos(),
+            one.words,
+            one.sum
         )?;
     }
     Ok(())

@@ -1,5 +1,5 @@
 //! How long it takes to carry units over deltas.
-ghost use Rattle.std.specs.Prelude.{◌≡◌, ◌+◌, ◌<◌, ◌≤◌, IfOk, IfSome, OnOk, List, length};
+ghost use Rattle.std.specs.Prelude.{◌≡◌, ◌+◌, ◌<◌, ◌≤◌, ℕ, IfOk, IfSome, OnOk, List, length};
 ghost use Rattle.column_bins.specs.Column.{bin_count};
 ghost use Rattle.cubit_base.specs.Table.{Row};
 ghost use Rattle.cubit_base.specs.Delta.{applied, IsLawful};
@@ -17,8 +17,8 @@ use std::time::{Duration, Instant};
 use tbl_text::base_of;
 use unit_version::{Base, Changes, Content, Memory, Unit, patched_by};
 
-// Rows, each with its key and its tuple or none.
-type Rows = Vec<(Key, Option<Tuple>)>;
+/// Rows, each with its key and its tuple or none.
+pub(crate) type Rows = Vec<(Key, Option<Tuple>)>;
 
 /// How many deltas, and the least times of the rounds over them.
 #[derive(Drop)]
@@ -57,8 +57,8 @@ pub(crate) fn patched_times<R: Clock + AllocGlobal>(
     Ok(times)
 }
 
-// The rows of a table.
-fn rows_of(alloc: Global, table: &Table) -> Result<Rows, Memory>
+/// The rows of a table.
+pub(crate) fn rows_of(alloc: Global, table: &Table) -> Result<Rows, Memory>
     ensures { IfOk result (λ rows. rows.items ≡ table.now) }
 {
     let mut rows = Vec::with_capacity(alloc, table.len() as usize)?;
@@ -230,16 +230,19 @@ fn drawn(alloc: Global, rows: &Rows, count: u32, whole: bool) -> Result<(DeltaLi
     Ok((deltas, now.len() as u32))
 }
 
-fn next(state: &mut u64) -> u32 {
+/// The next drawn number.
+pub(crate) fn next(state: &mut u64) -> u32 {
     *state = state
         .wrapping_mul(6_364_136_223_846_793_005)
         .wrapping_add(1_442_695_040_888_963_407);
     (*state >> 33) as u32
 }
 
-// Another tuple for a live row, or none.
-fn change(rows: &Rows, row: u32, draw: u32, whole: bool) -> Option<Delta>
-    ensures { IfSome result (λ d. IsLawful 16_777_216 rows.now.items d) }
+/// Another tuple for a live row, or none.
+pub(crate) fn change(rows: &Rows, row: u32, draw: u32, whole: bool) -> Option<Delta>
+    ensures lawful { IfSome result (λ d. IsLawful 16_777_216 rows.now.items d) }
+    ensures within { IfSome result (λ d. (limit : ℕ) → IsLawful limit rows.now.items d) }
+    ensures author { IfSome result (λ d. d.author ≡ 0) }
 {
     let (key, before) = *rows.get(row as usize)?;
     let old = before?;
@@ -289,8 +292,8 @@ fn follow(rows: &mut Rows, deltas: &mut DeltaList, delta: Option<Delta>) -> Resu
     apply(rows, &delta)
 }
 
-// Applies a delta.
-fn apply(rows: &mut Rows, delta: &Delta) -> Result<(), Memory>
+/// Applies a delta.
+pub(crate) fn apply(rows: &mut Rows, delta: &Delta) -> Result<(), Memory>
     requires { IsLawful 16_777_216 rows.old.items delta.now }
     ensures { OnOk result (rows.new.items ≡ applied rows.old.items delta.now) }
 {

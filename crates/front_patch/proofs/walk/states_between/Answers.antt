@@ -19,7 +19,7 @@ loop-entry-init g c =
       walked = walks-none (c.cursor-cursor.result.len - from) (g.L.CommitLog.handle c.args.log.now) none;
       place = c.cursor-cursor.ensures.place;
       to = c.requires.to;
-      states = c.new-states.ensures.items
+      states = c.in_ok-states.ensures.items
           ∙ ap (map state_after) (sym (c.stretches.ensures.empty log from))
           ∙ ap (λ n. map state_after (between from n log)) (sym len);
       steps = omega (arith, none);
@@ -62,3 +62,6 @@ returns-in_err-push-clause-same g c =
       walks-more n (n + 1) (handle c.args.log.now) (handle c.loop-entry.log) (handle c.following.new.self)
           c.loop-entry.invariant.walked c.in-Some.ensures.walk.walked refl,
     )
+
+pub returns-in_err-states-clause-same : goal.returns-in_err-states-clause-same
+returns-in_err-states-clause-same g c = (0, walks-none 0 (g.L.CommitLog.handle c.args.log.now) refl)
