@@ -17,11 +17,7 @@ use version_store::MemoryStore;
 const TRIES: u32 = 8;
 
 /// What the rows that match a predicate add up to. The index over the table is built, asked once, and let go.
-pub(crate) fn totals(
-    alloc: Global,
-    table: Table,
-    predicate: &Predicate,
-) -> Result<Totals, Memory>
+pub(crate) fn totals(alloc: Global, table: Table, predicate: &Predicate) -> Result<Totals, Memory>
     requires keys { HasDistinctKeys table }
     ensures { IfOk result (λ totals. (totals.count ≡ (answer table predicate.now).count)
         × (totals.sum ≡ (answer table predicate.now).sum)) }

@@ -110,7 +110,12 @@ impl Fenced {
         let words = self.wah.words();
         match self.fences.get(first as usize) {
             Some(fence) => {
-                or_groups(words, *fence, self.end_before(first as usize + BLOCK_PAGES), out);
+                or_groups(
+                    words,
+                    *fence,
+                    self.end_before(first as usize + BLOCK_PAGES),
+                    out,
+                );
             }
             None => {}
         }

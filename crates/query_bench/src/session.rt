@@ -105,11 +105,17 @@ fn session<S: Setup, N: Ledger, M: Ledger, R: Clock + AllocGlobal>(
     let build = began.elapsed(rt)?;
     let mut log = SerialLog::<S>::make(rt.alloc(), base.rows(), UPDATES, limits)?;
     let mut store = MemoryStore::make(rt.alloc(), &base, &mut log)?;
-    let at_base = all_timed(rt, &mut log, &mut store, &base, cases, rounds, &mut steps, &mut reads)?;
+    let at_base = all_timed(
+        rt, &mut log, &mut store, &base, cases, rounds, &mut steps, &mut reads,
+    )?;
     change(&mut log, &mut store, &base, updates, &mut steps);
-    let unmerged = all_timed(rt, &mut log, &mut store, &base, cases, rounds, &mut steps, &mut reads)?;
+    let unmerged = all_timed(
+        rt, &mut log, &mut store, &base, cases, rounds, &mut steps, &mut reads,
+    )?;
     merge_all(rt.alloc(), &mut log, &mut store, &base, TRIES, &mut steps)?;
-    let merged = all_timed(rt, &mut log, &mut store, &base, cases, rounds, &mut steps, &mut reads)?;
+    let merged = all_timed(
+        rt, &mut log, &mut store, &base, cases, rounds, &mut steps, &mut reads,
+    )?;
     Ok(Report {
         build,
         at_base,

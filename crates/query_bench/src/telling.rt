@@ -12,7 +12,11 @@ pub(crate) fn tell<R: Print + Eprint>(
     tells_times: bool,
 ) -> io::Result<()> {
     if tells_times {
-        eprintln!(rt; "build={}.{:09}", report.build.as_secs(), report.build.subsec_nanos())?;
+        eprintln!(rt;
+            "build={}.{:09}",
+            report.build.as_secs(),
+            report.build.subsec_nanos()
+        )?;
     }
     tell_state(rt, "base", cases, &mut report.at_base, tells_times)?;
     tell_state(rt, "unmerged", cases, &mut report.unmerged, tells_times)?;
@@ -27,7 +31,10 @@ fn tell_state<R: Print + Eprint>(
     tells_times: bool,
 ) -> io::Result<()> {
     for (case, timed) in cases.iter().zip(all.iter_mut()) {
-        println!(rt; "{state} {} count={} sum={}", case.name, timed.count, timed.sum)?;
+        println!(rt;
+            "{state} {} count={} sum={}",
+            case.name, timed.count, timed.sum
+        )?;
         if tells_times {
             tell_times(rt, state, case.name, timed)?;
         }
