@@ -11,7 +11,7 @@ use crate::Memory;
 use crate::place::{advanced, or_groups};
 use std::alloc::Global;
 use std::marker::Model;
-use wah_words::{GROUP_ROWS, PAGE_GROUPS, PAGE_ROWS, PageWriter, Place, Run, Wah, one_spelling};
+use wah_words::{GROUP_ROWS, PAGE_GROUPS, PAGE_ROWS, PageWriter, Place, Run, Wah, one_spelling, turn_rows};
 
 /// The groups of the pages that are read at once.
 pub const BLOCK_GROUPS: usize = 32 * PAGE_GROUPS;
@@ -74,7 +74,57 @@ impl Fenced {
         if places.is_empty() && rows == self.wah.len() {
             return self.copied(alloc);
         }
-        Fenced::make(alloc, self.wah.toggled(alloc, places, rows)?)
+        let pages = rows.div_ceil(PAGE_ROWS);
+        if places.len() > pages as usize / 4 {
+            return Fenced::make(alloc, self.wah.toggled(alloc, places, rows)?);
+        }
+        self.toggled_pages(alloc, places, rows)
+    }
+
+    // The same, page by page where rows are turned, and by copies between.
+    fn toggled_pages(&self, alloc: Global, places: &[u32], rows: u32) -> Result<Fenced, Memory>
+        requires rising { IsStrictlyIncreasing places.now }
+        requires below { All (λ place. place < rows) places.now }
+        requires longer { length self.now ≤ rows }
+        ensures length { IfOk result (λ fenced. length fenced ≡ rows) }
+        ensures rows { IfOk result (λ fenced. IsToggled self.now places.now fenced) }
+    {
+        let pages = rows.div_ceil(PAGE_ROWS);
+        let mut writer = PageWriter::with_capacity(alloc, pages)?;
+        let mut rest = places;
+        for _ in 0..pages {
+            let from = writer.pages() as u32;
+            if from >= pages {
+                break;
+            }
+            let page = self.copied_to(rest, from);
+            if from < page {
+                let fences = &self.fences[from as usize..page as usize + 1];
+                writer = writer.push_pages(self.wah.words(), fences)?;
+            }
+            let (here, after) = split_page(rest, page);
+            writer.push_page(&self.toggled_page(page, here))?;
+            rest = after;
+        }
+        Fenced::from_pages(writer, rows)
+    }
+
+    // The page up to which all are copied whole: the next one with a place, or the last.
+    fn copied_to(&self, places: &[u32], from: u32) -> u32 {
+        let whole = (self.fences.len() as u32).saturating_sub(1);
+        let next = match places.first() {
+            Some(place) => (*place / PAGE_ROWS).min(whole),
+            None => whole,
+        };
+        next.max(from)
+    }
+
+    // A page with the rows at these places turned.
+    fn toggled_page(&self, page: u32, places: &[u32]) -> [u32; PAGE_GROUPS] {
+        let mut groups = [0; PAGE_GROUPS];
+        self.window(page, &mut groups);
+        turn_rows(&mut groups, page * PAGE_ROWS, places);
+        groups
     }
 
     // The list once more.
@@ -122,6 +172,18 @@ impl Fenced {
         let place = advanced(words, fence, group % PAGE_GROUPS as u32);
         (Run::of_word(words[place.word]).group >> (row % GROUP_ROWS)) & 1 == 1
     }
+}
+
+// The places that lie in a page, and those behind it.
+fn split_page(places: &[u32], page: u32) -> (&[u32], &[u32]) {
+    let mut count = 0;
+    for place in places {
+        if *place / PAGE_ROWS > page {
+            break;
+        }
+        count += 1;
+    }
+    places.split_at(count)
 }
 
 fn fences_of(alloc: Global, wah: &Wah) -> Result<Vec<Place>, Memory>

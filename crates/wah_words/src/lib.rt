@@ -51,7 +51,9 @@ mod place;
 mod places;
 mod run;
 mod source;
+mod stretch;
 mod toggle;
+mod turn;
 mod wah;
 mod walk;
 
@@ -61,4 +63,5 @@ pub use pages::{PageWriter, pages_of_list};
 pub use place::{PAGE_GROUPS, PAGE_ROWS, Place};
 pub use run::{GROUP_ROWS, Run, TRUE_FILL, is_literal};
 pub use std::alloc::AllocError as Memory;
+pub use turn::turn_rows;
 pub use wah::{Wah, one_spelling};

@@ -3,15 +3,18 @@
 //! The fill that is under way is kept beside the words, so that what a page adds is made apart from them: words are put
 //! at the end alone, and the start of each page is known when it is pushed. A page without a group of true rows, as
 //! most are, goes without a branch for a group.
-ghost use Rattle.std.specs.Prelude.{ℕ, List, Bool, ◌≡◌, ◌<◌, ◌≤◌, ◌+◌, ◌-◌, ◌*◌, ◌%◌, ◌^◌, ◌≢◌, if◌then◌else◌, [], ◌∷◌, ◌++◌, All, IsTrue, slice_index, IfOk, IfSome, IfNone, OnOk, OnErr, drop, take, false, length};
+ghost use Rattle.std.specs.Prelude.{ℕ, List, Bool, ◌≡◌, ◌<◌, ◌≤◌, ◌+◌, ◌-◌, ◌*◌, ◌%◌, ◌^◌, ◌≢◌, if◌then◌else◌, [], ◌∷◌, ◌++◌, All, IsTrue, slice_index, IfOk, IfSome, IfNone, OnOk, OnErr, drop, replicate, take, false, length};
 ghost use Rattle.wah_words.specs.Group.{group_at, unpacked};
 ghost use Rattle.wah_words.specs.Pages.{IsUnderway, IsWriting, false_run, underway};
-ghost use Rattle.wah_words.specs.Word.{run_count, run_group};
-ghost use Rattle.wah_words.specs.Place.{ArePagesOf, HasFences, SpellPages};
+ghost use Rattle.wah_words.specs.Canonical.{AreRuns};
+ghost use Rattle.wah_words.specs.Stretch.{AreFencesFrom, pages_from};
+ghost use Rattle.wah_words.specs.Word.{groups, run_count, run_group};
+ghost use Rattle.wah_words.specs.Place.{ArePagesOf, HasFences, IsAfter, SpellPages};
 
 use crate::Memory;
 use crate::place::{PAGE_GROUPS, PAGE_ROWS, Place};
-use crate::run::{ALL_TRUE, COUNT_BITS, FALSE_FILL, TRUE_FILL, fill_word, group_count, joins};
+use crate::run::{ALL_TRUE, COUNT_BITS, FALSE_FILL, Run, TRUE_FILL, fill_word, group_count, joins};
+use crate::stretch::{copy, push_moved, push_run, settled};
 use crate::wah::Wah;
 use std::alloc::Global;
 use std::marker::Model;
@@ -85,6 +88,67 @@ impl PageWriter {
         Ok(())
     }
 
+    /// Puts whole pages of other words at the end as they lie, from the first of these places up to the last, of which
+    /// each is where a page starts. It takes the time of a copy of the words and the places.
+    pub fn push_pages(self, words: &[u32], fences: &[Place]) -> Result<PageWriter, Memory>
+        requires runs { AreRuns words.now }
+        requires room { length (groups words.now) < 2 ^ 30 }
+        requires fences { AreFencesFrom words.now (length self) fences.now }
+        ensures { IfOk result (λ writer. writer ≡ self ++ pages_from words.now (length self) (length fences.now - 1)) }
+    {
+        let mut writer = self;
+        for at in 1..fences.len() {
+            let first = settled(words, fences[at - 1]);
+            let run = Run::of_word(words[first.word]);
+            if run.count - first.skipped < PAGE_GROUPS as u32 {
+                return writer.push_stretch(words, first, &fences[at - 1..]);
+            }
+            writer = writer.push_filled(run)?;
+        }
+        Ok(writer)
+    }
+
+    // Puts a page at the end that lies in a run.
+    fn push_filled(mut self, run: Run) -> Result<PageWriter, Memory>
+        requires page { PAGE_GROUPS ≤ run.count }
+        requires room { length self + PAGE_GROUPS < 2 ^ 30 }
+        ensures { IfOk result (λ writer. writer ≡ self ++ replicate PAGE_GROUPS run.group) }
+    {
+        let start = self.end();
+        self.run = push_run(&mut self.words, self.run, run.part(PAGE_GROUPS as u32))?;
+        self.starts.push(start)?;
+        Ok(self)
+    }
+
+    // Puts pages at the end, of which the first begins in a run that ends before the page does.
+    fn push_stretch(mut self, words: &[u32], first: Place, fences: &[Place]) -> Result<PageWriter, Memory>
+        requires runs { AreRuns words.now }
+        requires room { length (groups words.now) < 2 ^ 30 }
+        requires some { 2 ≤ length fences.now }
+        requires fences { AreFencesFrom words.now (length self) fences.now }
+        requires first { IsAfter words.now (length self) first }
+        requires inside { first.skipped < run_count (slice_index words.now first.word) }
+        requires short { run_count (slice_index words.now first.word) < first.skipped + PAGE_GROUPS }
+        ensures { IfOk result (λ writer. writer ≡ self ++ pages_from words.now (length self) (length fences.now - 1)) }
+    {
+        let start = self.end();
+        let end = fences.len() - 1;
+        let (base, run) = copy(&mut self.words, self.run, words, first, fences[end])?;
+        self.run = run;
+        self.starts.push(start)?;
+        push_moved(&mut self.starts, &fences[1..end], first.word + 1, base)?;
+        Ok(self)
+    }
+
+    // Where the next page starts.
+    fn end(&self) -> Place
+    {
+        Place {
+            word: self.words.len(),
+            skipped: self.run & COUNT_BITS,
+        }
+    }
+
     /// The bitvector of so many rows, and the start of each of its pages.
     pub fn finish(mut self, rows: u32) -> Result<(Wah, Vec<Place>), Memory>
         requires { ArePagesOf self rows }
@@ -109,7 +173,7 @@ pub fn pages_of_list()
 {}
 
 // Puts the run under way behind the words, where there is one.
-fn close(words: &mut Vec<u32>, run: u32) -> Result<(), Memory>
+pub(crate) fn close(words: &mut Vec<u32>, run: u32) -> Result<(), Memory>
     ensures { OnOk result (words.new.items ≡ words.old.items ++ underway run) }
 {
     if run != 0 {
