@@ -20,6 +20,7 @@ pub mod Runs
 pub mod Shorter
 pub mod Spelled
 pub mod Spelling
+pub mod Stretches
 pub mod Toggled
 pub mod ToggledRows
 pub mod Turned

@@ -53,7 +53,7 @@ fill_from_group w run mixed above same =
     ]
 
 -- the groups from a word on
-groups-from : (words : List ℕ) (i : ℕ) → i < length words
+pub groups-from : (words : List ℕ) (i : ℕ) → i < length words
     → groups (drop i words)
     ≡ replicate (run_count (get_or words i 0)) (run_group (get_or words i 0)) ++ groups (drop (i + 1) words)
 groups-from words i within = ap groups (drop_more words i 0 within)
