@@ -1,5 +1,6 @@
 pub mod Bits
 pub mod Blocks
+pub mod Copies
 pub mod Counted
 pub mod Fits
 pub mod Fronts

@@ -69,12 +69,24 @@ fn push_fill(words: &mut Vec<u32>, run: u32, fill: u32) -> Result<u32, Memory>
     ensures extends { IfOk result (λ next. Extends words.old.items run (replicate (run_count fill) (run_group fill))
         words.new.items next) }
     ensures group { IfOk result (λ next. run_group next ≡ run_group fill) }
-    ensures apart { AreApart run fill → IfOk result (λ next.
-        words.new.items ++ underway next ≡ (words.old.items ++ underway run) ++ fill ∷ []) }
 {
     if joins(run, fill) {
         return Ok(run + (fill & COUNT_BITS));
     }
+    push_apart(words, run, fill)
+}
+
+// The same for a fill that does not join the run under way.
+fn push_apart(words: &mut Vec<u32>, run: u32, fill: u32) -> Result<u32, Memory>
+    requires above { 2 ^ 31 ≤ fill }
+    requires some { 1 ≤ run_count fill }
+    requires apart { AreApart run fill }
+    ensures extends { IfOk result (λ next. Extends words.old.items run (replicate (run_count fill) (run_group fill))
+        words.new.items next) }
+    ensures fill { IfOk result (λ next. next ≡ fill) }
+    ensures whole { IfOk result (λ next.
+        words.new.items ++ underway next ≡ (words.old.items ++ underway run) ++ fill ∷ []) }
+{
     close(words, run)?;
     Ok(fill)
 }
@@ -134,7 +146,7 @@ pub(crate) fn copy(
     }
     let word = words[last.word];
     let part = word - (Run::of_word(word).count - last.skipped);
-    Ok((base, push_fill(out, run, part)?))
+    Ok((base, push_apart(out, run, part)?))
 }
 
 /// Puts places at the end that lie in words which were moved from one place to another.

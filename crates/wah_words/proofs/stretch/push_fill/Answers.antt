@@ -25,29 +25,6 @@ returns-then-joins-clause-extends c =
           (omega (arith, joined.0), omega (arith, joined.0, count, c.requires.room, c.requires.some));
     }
 
-pub returns-clause-extends : goal.returns-clause-extends
-returns-clause-extends c =
-    let fill = c.args.fill in
-    record {
-      written = underway c.args.run;
-      is = c.in_ok-close.ensures;
-      writes = writes_run c.args.run fill c.requires.above c.requires.some
-          (λ before here same. let joined = c.joins.ensures.1 (before, here, same) in cc);
-      fill = λ _.
-          (c.requires.above, omega (arith, c.requires.some, run_count-fill fill c.requires.above));
-    }
-
-pub returns-clause-apart : goal.returns-clause-apart
-returns-clause-apart c = λ _.
-    ap (λ all. all ++ underway c.args.fill) c.in_ok-close.ensures
-    ∙ ap (λ last. (c.args.words.now.items ++ underway c.args.run) ++ last)
-    (underway-some c.args.fill (omega (arith, c.requires.above)))
-
-pub returns-then-joins-clause-apart : goal.returns-then-joins-clause-apart
-returns-then-joins-clause-apart c = λ apart.
-    let joined = c.if-joins.ensures.0 refl in
-    absurd (apart joined.0 joined.1 joined.2)
-
 pub returns-then-joins-clause-group : goal.returns-then-joins-clause-group
 returns-then-joins-clause-group c =
     let run = c.args.run in
@@ -58,3 +35,6 @@ returns-then-joins-clause-group c =
     ap (λ n. run_group (run + n)) (sym count)
     ∙ run_group-grown run (run_count fill) joined.0 c.requires.room
     ∙ joined.2
+
+pub push_apart-requires-clause-apart : goal.push_apart-requires-clause-apart
+push_apart-requires-clause-apart c = λ before here same. let joined = c.joins.ensures.1 (before, here, same) in cc
