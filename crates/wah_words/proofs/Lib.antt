@@ -21,6 +21,7 @@ pub mod Runs
 pub mod Shorter
 pub mod Spelled
 pub mod Spelling
+pub mod Stretched
 pub mod Stretches
 pub mod Toggled
 pub mod ToggledRows

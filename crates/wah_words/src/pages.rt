@@ -93,15 +93,19 @@ impl PageWriter {
     pub fn push_pages(self, words: &[u32], fences: &[Place]) -> Result<PageWriter, Memory>
         requires runs { AreRuns words.now }
         requires room { length (groups words.now) < 2 ^ 30 }
+        requires some { 0 < length fences.now }
+        requires within { length self + 128 * (length fences.now - 1) < length (groups words.now) }
         requires fences { AreFencesFrom words.now (length self) fences.now }
         ensures { IfOk result (λ writer. writer ≡ self ++ pages_from words.now (length self) (length fences.now - 1)) }
     {
         let mut writer = self;
-        for at in 1..fences.len() {
-            let first = settled(words, fences[at - 1]);
+        let end = fences.len() - 1;
+        for at in 0..end {
+            let first = settled(words, fences[at]);
             let run = Run::of_word(words[first.word]);
             if run.count - first.skipped < PAGE_GROUPS as u32 {
-                return writer.push_stretch(words, first, &fences[at - 1..]);
+                let last = settled(words, fences[end]);
+                return writer.push_stretch(words, first, last, &fences[at + 1..end]);
             }
             writer = writer.push_filled(run)?;
         }
@@ -114,39 +118,46 @@ impl PageWriter {
         requires room { length self + PAGE_GROUPS < 2 ^ 30 }
         ensures { IfOk result (λ writer. writer ≡ self ++ replicate PAGE_GROUPS run.group) }
     {
-        let start = self.end();
-        self.run = push_run(&mut self.words, self.run, run.part(PAGE_GROUPS as u32))?;
-        self.starts.push(start)?;
-        Ok(self)
-    }
-
-    // Puts pages at the end, of which the first begins in a run that ends before the page does.
-    fn push_stretch(mut self, words: &[u32], first: Place, fences: &[Place]) -> Result<PageWriter, Memory>
-        requires runs { AreRuns words.now }
-        requires room { length (groups words.now) < 2 ^ 30 }
-        requires some { 2 ≤ length fences.now }
-        requires fences { AreFencesFrom words.now (length self) fences.now }
-        requires first { IsAfter words.now (length self) first }
-        requires inside { first.skipped < run_count (slice_index words.now first.word) }
-        requires short { run_count (slice_index words.now first.word) < first.skipped + PAGE_GROUPS }
-        ensures { IfOk result (λ writer. writer ≡ self ++ pages_from words.now (length self) (length fences.now - 1)) }
-    {
-        let start = self.end();
-        let end = fences.len() - 1;
-        let (base, run) = copy(&mut self.words, self.run, words, first, fences[end])?;
-        self.run = run;
-        self.starts.push(start)?;
-        push_moved(&mut self.starts, &fences[1..end], first.word + 1, base)?;
-        Ok(self)
-    }
-
-    // Where the next page starts.
-    fn end(&self) -> Place
-    {
-        Place {
+        let start = Place {
             word: self.words.len(),
             skipped: self.run & COUNT_BITS,
-        }
+        };
+        let next = push_run(&mut self.words, self.run, run.part(PAGE_GROUPS as u32))?;
+        self.starts.push(start)?;
+        self.run = next;
+        Ok(self)
+    }
+
+    // Puts pages at the end, of which the first begins in a run that ends before the page does, and the others at these
+    // places.
+    fn push_stretch(
+        mut self,
+        words: &[u32],
+        first: Place,
+        last: Place,
+        others: &[Place],
+    ) -> Result<PageWriter, Memory>
+        requires runs { AreRuns words.now }
+        requires room { length (groups words.now) < 2 ^ 30 }
+        requires first { IsAfter words.now (length self) first }
+        requires last { IsAfter words.now (length self + 128 * (length others.now + 1)) last }
+        requires others { AreFencesFrom words.now (length self + 128) others.now }
+        requires first_inside { first.skipped < run_count (slice_index words.now first.word) }
+        requires last_inside { last.skipped < run_count (slice_index words.now last.word) }
+        requires first_within { first.word < length words.now }
+        requires last_within { last.word < length words.now }
+        requires short { run_count (slice_index words.now first.word) < first.skipped + PAGE_GROUPS }
+        ensures { IfOk result (λ writer. writer ≡ self ++ pages_from words.now (length self) (length others.now + 1)) }
+    {
+        let start = Place {
+            word: self.words.len(),
+            skipped: self.run & COUNT_BITS,
+        };
+        let (base, next) = copy(&mut self.words, self.run, words, first, last)?;
+        self.starts.push(start)?;
+        push_moved(&mut self.starts, others, first.word + 1, base)?;
+        self.run = next;
+        Ok(self)
     }
 
     /// The bitvector of so many rows, and the start of each of its pages.

@@ -157,7 +157,7 @@ pub(crate) fn push_moved(
     to: usize,
 ) -> Result<(), Memory>
     requires behind { All (λ place. from ≤ place.word) places.now }
-    requires room { All (λ place. to + place.word < 2 ^ 64) places.now }
+    requires room { All (λ place. to + (place.word - from) < 2 ^ 64) places.now }
     ensures { OnOk result (starts.new.items ≡ starts.old.items ++ map (moved from to) places.now) }
 {
     for place in places {
