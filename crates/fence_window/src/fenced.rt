@@ -1,17 +1,19 @@
 //! Bitvectors with a fence for each page.
-ghost use Rattle.std.specs.Prelude.{ℕ, ◌≡◌, ◌+◌, ◌*◌, ◌<◌, ◌≤◌, All, IfOk, length, take, slice_get, slice_index, bit_or};
+ghost use Rattle.std.specs.Prelude.{ℕ, ◌≡◌, ◌+◌, ◌*◌, ◌<◌, ◌≤◌, ◌^◌, ◌++◌, All, IfOk, length, take, slice_get, slice_index, bit_or};
 ghost use Rattle.std.specs.List.Sorted.{IsStrictlyIncreasing};
 ghost use Rattle.wah_words.specs.Group.{group_at, unpacked};
-ghost use Rattle.wah_words.specs.Place.{ArePagesOf, HasFences};
+ghost use Rattle.wah_words.specs.Place.{ArePagesOf, HasFences, page_count};
 ghost use Rattle.wah_words.specs.Rows.{IsToggled};
 ghost use Rattle.fence_window.specs.Ors.{IsOrInto};
+ghost use Rattle.fence_window.specs.Turned.{AreRowsToggled, IsCopied};
 ghost use Rattle.fence_window.specs.Window.{IsWindow};
 
 use crate::Memory;
 use crate::place::{advanced, or_groups};
 use std::alloc::Global;
 use std::marker::Model;
-use wah_words::{GROUP_ROWS, PAGE_GROUPS, PAGE_ROWS, PageWriter, Place, Run, Wah, one_spelling, turn_rows};
+use wah_words::{GROUP_ROWS, PAGE_GROUPS, PAGE_ROWS, PageWriter, Place, Run, Wah, laws, one_spelling, turn_rows};
+use wah_words::laws::groups;
 
 /// The groups of the pages that are read at once.
 pub const BLOCK_GROUPS: usize = 32 * PAGE_GROUPS;
@@ -89,19 +91,17 @@ impl Fenced {
         ensures length { IfOk result (λ fenced. length fenced ≡ rows) }
         ensures rows { IfOk result (λ fenced. IsToggled self.now places.now fenced) }
     {
+        laws::toggles();
         let pages = rows.div_ceil(PAGE_ROWS);
         let mut writer = PageWriter::with_capacity(alloc, pages)?;
         let mut rest = places;
-        for _ in 0..pages {
+        for _turn in 0..pages {
             let from = writer.pages() as u32;
             if from >= pages {
                 break;
             }
-            let page = self.copied_to(rest, from);
-            if from < page {
-                let fences = &self.fences[from as usize..page as usize + 1];
-                writer = writer.push_pages(self.wah.words(), fences)?;
-            }
+            let page = copied_to(rest, from, self.fences.len());
+            writer = self.copied_pages(writer, page)?;
             let (here, after) = split_page(rest, page);
             writer.push_page(&self.toggled_page(page, here))?;
             rest = after;
@@ -109,22 +109,34 @@ impl Fenced {
         Fenced::from_pages(writer, rows)
     }
 
-    // The page up to which all are copied whole: the next one with a place, or the last.
-    fn copied_to(&self, places: &[u32], from: u32) -> u32 {
-        let whole = (self.fences.len() as u32).saturating_sub(1);
-        let next = match places.first() {
-            Some(place) => (*place / PAGE_ROWS).min(whole),
-            None => whole,
-        };
-        next.max(from)
+    // The pages that are written, and those of the list up to another page.
+    fn copied_pages(&self, writer: PageWriter, page: u32) -> Result<PageWriter, Memory>
+        requires whole { length writer ≤ 128 * page }
+        requires within { length writer < 128 * page → page < page_count (length self.now) }
+        ensures { IfOk result (λ made. IsCopied self.now writer page made) }
+    {
+        let from = writer.pages();
+        if from >= page as usize {
+            return Ok(writer);
+        }
+        let words = self.wah.words();
+        writer.push_pages(words, &self.fences[from..page as usize + 1])
     }
 
     // A page with the rows at these places turned.
-    fn toggled_page(&self, page: u32, places: &[u32]) -> [u32; PAGE_GROUPS] {
-        let mut groups = [0; PAGE_GROUPS];
-        self.window(page, &mut groups);
-        turn_rows(&mut groups, page * PAGE_ROWS, places);
-        groups
+    fn toggled_page(&self, page: u32, places: &[u32]) -> [u32; PAGE_GROUPS]
+        requires rising { IsStrictlyIncreasing places.now }
+        requires from { All (λ place. PAGE_ROWS * page ≤ place) places.now }
+        requires to { All (λ place. place < PAGE_ROWS * page + PAGE_ROWS) places.now }
+        requires few { PAGE_ROWS * page < 2 ^ 32 }
+        ensures within { All (λ group. group < 2 ^ 31) result }
+        ensures rows { AreRowsToggled self.now places.now (PAGE_ROWS * page) result }
+    {
+        groups();
+        let mut numbers = [0; PAGE_GROUPS];
+        self.window(page, &mut numbers);
+        turn_rows(&mut numbers, page * PAGE_ROWS, places);
+        numbers
     }
 
     // The list once more.
@@ -174,8 +186,34 @@ impl Fenced {
     }
 }
 
+// The page up to which all are copied whole: the next one with a place, or the last.
+fn copied_to(places: &[u32], from: u32, fences: usize) -> u32
+    requires rising { IsStrictlyIncreasing places.now }
+    requires behind { All (λ place. PAGE_ROWS * from ≤ place) places.now }
+    ensures from { from ≤ result }
+    ensures within { from < result → result < fences }
+    ensures behind { All (λ place. PAGE_ROWS * result ≤ place) places.now }
+{
+    let next = match places.first() {
+        Some(place) => *place / PAGE_ROWS,
+        None => u32::MAX,
+    };
+    if next <= from || fences <= from as usize + 1 {
+        return from;
+    }
+    if (next as usize) < fences {
+        return next;
+    }
+    fences as u32 - 1
+}
+
 // The places that lie in a page, and those behind it.
-fn split_page(places: &[u32], page: u32) -> (&[u32], &[u32]) {
+fn split_page(places: &[u32], page: u32) -> (&[u32], &[u32])
+    requires { IsStrictlyIncreasing places.now }
+    ensures whole { places.now ≡ result.0.now ++ result.1.now }
+    ensures here { All (λ place. place < PAGE_ROWS * page + PAGE_ROWS) result.0.now }
+    ensures behind { All (λ place. PAGE_ROWS * page + PAGE_ROWS ≤ place) result.1.now }
+{
     let mut count = 0;
     for place in places {
         if *place / PAGE_ROWS > page {
