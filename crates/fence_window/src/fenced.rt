@@ -13,7 +13,6 @@ use crate::place::{advanced, or_groups};
 use std::alloc::Global;
 use std::marker::Model;
 use wah_words::{GROUP_ROWS, PAGE_GROUPS, PAGE_ROWS, PageWriter, Place, Run, Wah, laws, one_spelling, turn_rows};
-use wah_words::laws::groups;
 
 /// The groups of the pages that are read at once.
 pub const BLOCK_GROUPS: usize = 32 * PAGE_GROUPS;
@@ -91,28 +90,30 @@ impl Fenced {
         ensures length { IfOk result (λ fenced. length fenced ≡ rows) }
         ensures rows { IfOk result (λ fenced. IsToggled self.now places.now fenced) }
     {
+        laws::groups();
+        laws::rows_of_groups();
         laws::toggles();
         let pages = rows.div_ceil(PAGE_ROWS);
         let mut writer = PageWriter::with_capacity(alloc, pages)?;
         let mut rest = places;
-        for _turn in 0..pages {
-            let from = writer.pages() as u32;
-            if from >= pages {
-                break;
-            }
+        let mut from = 0;
+        while from < pages {
             let page = copied_to(rest, from, self.fences.len());
             writer = self.copied_pages(writer, page)?;
             let (here, after) = split_page(rest, page);
             writer.push_page(&self.toggled_page(page, here))?;
             rest = after;
+            from = page + 1;
         }
-        Fenced::from_pages(writer, rows)
+        let made = Fenced::from_pages(writer, rows)?;
+        Ok(made)
     }
 
     // The pages that are written, and those of the list up to another page.
     fn copied_pages(&self, writer: PageWriter, page: u32) -> Result<PageWriter, Memory>
         requires whole { length writer ≤ 128 * page }
         requires within { length writer < 128 * page → page < page_count (length self.now) }
+        requires few { length self.now < 2 ^ 32 }
         ensures { IfOk result (λ made. IsCopied self.now writer page made) }
     {
         let from = writer.pages();
@@ -120,7 +121,8 @@ impl Fenced {
             return Ok(writer);
         }
         let words = self.wah.words();
-        writer.push_pages(words, &self.fences[from..page as usize + 1])
+        let made = writer.push_pages(words, &self.fences[from..page as usize + 1])?;
+        Ok(made)
     }
 
     // A page with the rows at these places turned.
@@ -132,7 +134,7 @@ impl Fenced {
         ensures within { All (λ group. group < 2 ^ 31) result }
         ensures rows { AreRowsToggled self.now places.now (PAGE_ROWS * page) result }
     {
-        groups();
+        laws::groups();
         let mut numbers = [0; PAGE_GROUPS];
         self.window(page, &mut numbers);
         turn_rows(&mut numbers, page * PAGE_ROWS, places);
@@ -194,10 +196,7 @@ fn copied_to(places: &[u32], from: u32, fences: usize) -> u32
     ensures within { from < result → result < fences }
     ensures behind { All (λ place. PAGE_ROWS * result ≤ place) places.now }
 {
-    let next = match places.first() {
-        Some(place) => *place / PAGE_ROWS,
-        None => u32::MAX,
-    };
+    let next = first_page(places);
     if next <= from || fences <= from as usize + 1 {
         return from;
     }
@@ -207,21 +206,32 @@ fn copied_to(places: &[u32], from: u32, fences: usize) -> u32
     fences as u32 - 1
 }
 
+// The page of the first place, or the last number where there is none.
+fn first_page(places: &[u32]) -> u32
+    requires { IsStrictlyIncreasing places.now }
+    ensures { All (λ place. PAGE_ROWS * result ≤ place) places.now }
+{
+    if places.is_empty() {
+        return u32::MAX;
+    }
+    places[0] / PAGE_ROWS
+}
+
 // The places that lie in a page, and those behind it.
 fn split_page(places: &[u32], page: u32) -> (&[u32], &[u32])
     requires { IsStrictlyIncreasing places.now }
     ensures whole { places.now ≡ result.0.now ++ result.1.now }
+    ensures here_rising { IsStrictlyIncreasing result.0.now }
+    ensures rising { IsStrictlyIncreasing result.1.now }
     ensures here { All (λ place. place < PAGE_ROWS * page + PAGE_ROWS) result.0.now }
     ensures behind { All (λ place. PAGE_ROWS * page + PAGE_ROWS ≤ place) result.1.now }
 {
-    let mut count = 0;
-    for place in places {
-        if *place / PAGE_ROWS > page {
-            break;
+    for at in 0..places.len() {
+        if places[at] / PAGE_ROWS > page {
+            return places.split_at(at);
         }
-        count += 1;
     }
-    places.split_at(count)
+    places.split_at(places.len())
 }
 
 fn fences_of(alloc: Global, wah: &Wah) -> Result<Vec<Place>, Memory>
