@@ -1,15 +1,15 @@
 -- Pages of a list in which some rows are turned.
 use Rattle.std.proofs.Common.{◌≡◌, ◌≢◌, ℕ, zero, suc, ◌+◌, ◌-◌, ◌*◌, ◌/◌, ◌%◌, ◌^◌, ◌<◌, ◌≤◌, ◌∙◌, Bool, true, false, List, [], ◌++◌, length, get_or, take, drop, refl, sym, ap, subst, arith, inl, inr}
-use Rattle.std.specs.Prelude.{All, ◌||◌}
+use Rattle.std.specs.Prelude.{All, ◌||◌, slice_index, slice_index_or}
 use Rattle.std.specs.List.Sorted.{IsStrictlyIncreasing}
 use Rattle.std.proofs.lemmas.Bool.{cases_lt}
-use Rattle.std.proofs.lemmas.List.{append_assoc, get_or_append_left, get_or-append_right, get_or-drop, get_or-take, get_or_default, length-append, length-drop, length-take-le}
+use Rattle.std.proofs.lemmas.List.{append_assoc, get_or_append_left, get_or-append_right, get_or-drop, get_or-take, get_or_default, get_or_past, length-append, length-drop, length-take-le}
 use Rattle.std.proofs.lemmas.List.Elements.{All-append}
 use Rattle.std.proofs.lemmas.List.Kept.{AllPairs-from_increasing}
-use Rattle.wah_words.specs.Group.{group_at, group_row}
+use Rattle.wah_words.specs.Group.{group_at, group_row, unpacked}
 use Rattle.wah_words.specs.Word.{groups}
-use Rattle.wah_words.specs.Rows.{differs, has}
-use Rattle.wah_words.specs.Place.{AreFences, IsAfter}
+use Rattle.wah_words.specs.Rows.{IsToggled, differs, has}
+use Rattle.wah_words.specs.Place.{AreFences, IsAfter, page_count}
 use Rattle.wah_words.specs.Stretch.{AreFencesFrom, pages_from}
 use Rattle.wah_words.specs.declared.place.Place.{Place}
 use Rattle.fence_window.specs.Turned.{AreRowsToggled, IsCopied}
@@ -106,13 +106,15 @@ pub record IsTurnedTo (list : List Bool) (places rest writer : List ℕ) (from p
   pub behind : All (λ place. 3968 * from ≤ place) rest
   pub size : length writer ≡ 128 * from
   pub most : from ≤ pages
-  pub rows : AreRowsToggled list places 0 writer
+  pub rows : (row : ℕ) → row < 31 * length writer → group_row (slice_index writer (row / 31)) (row % 31)
+      ≡ differs (slice_index_or list row false) (has places row)
 
 -- what is known of groups and places
 pub record Laws (list : List Bool) : Type 0 where
   pub row : (k place : ℕ) → place < 31 → get_or list (31 * k + place) false ≡ group_row (group_at list k) place
   pub parted : (a b : List ℕ) (row : ℕ) → has (a ++ b) row ≡ (has a row || has b row)
   pub absent : (places : List ℕ) (row : ℕ) → All (λ place. place ≢ row) places → has places row ≡ false
+  pub zero : (place : ℕ) → place < 31 → group_row 0 place ≡ false
 
 differs-false : (value : Bool) → differs value false ≡ value
 differs-false true = refl
@@ -215,3 +217,23 @@ turned_on list places rest writer from pages page mid here after groups laws is 
                 (absent_front list is.front (3968 * from) row laws is.before (omega (arith, low, order)))))
           ];
     }
+
+-- all pages
+pub turned_all : (list : List Bool) (places rest writer : List ℕ) (from pages rows : ℕ) → Laws list
+    → IsTurnedTo list places rest writer from pages → pages ≤ from → pages ≡ page_count rows → length list ≤ rows
+    → All (λ place. place < rows) places
+    → ((row : ℕ) → get_or (unpacked writer) row false ≡ group_row (get_or writer (row / 31) 0) (row % 31))
+    → IsToggled list places (unpacked writer)
+turned_all list places rest writer from pages rows laws is end count longer below unpacked_row = record {
+  each = λ row.
+      unpacked_row row
+      ∙ (elim (cases_lt row (31 * length writer)) [
+        | inl inside ↦ is.rows row inside
+        | inr past ↦
+            let far : rows ≤ row = omega (arith, past, is.size, end, count) in
+            ap (λ g. group_row g (row % 31)) (get_or_past writer (row / 31) 0 (omega (arith, past)))
+            ∙ laws.zero (row % 31) (omega arith)
+            ∙ sym (ap (λ value. differs value (has places row)) (get_or_past list row false (omega (arith, longer, far)))
+            ∙ ap (differs false) (absent_front list places rows row laws below far))
+      ]);
+}

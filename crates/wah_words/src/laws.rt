@@ -43,7 +43,8 @@ pub fn toggles()
     ensures pages { (old : List Bool) (places groups : List ℕ) (rows : ℕ) → length old ≤ rows →
         All (λ place. place < rows) places → length groups ≡ 128 * page_count rows →
         IsToggled old places (unpacked groups) →
-        ArePagesOf groups rows × IsToggled old places (take rows (unpacked groups)) }
+        ArePagesOf groups rows × (length (take rows (unpacked groups)) ≡ rows)
+        × IsToggled old places (take rows (unpacked groups)) }
 
     // A row is turned where one of two lists has it.
     ensures parted { (a b : List ℕ) (row : ℕ) → has (a ++ b) row ≡ (has a row || has b row) }

@@ -1,4 +1,5 @@
-use Rattle.std.proofs.Common.{eqb, arith}
+use Rattle.std.proofs.Common.{◌≤◌, eqb, length, arith}
+use Rattle.std.proofs.lemmas.List.{length-take-le}
 use Rattle.std.proofs.lemmas.List.Folds.{list_any-append}
 use Rattle.wah_words.specs.Group.{unpacked}
 use Rattle.wah_words.proofs.Spelled.{length-unpacked}
@@ -10,10 +11,11 @@ returns c = record {
   has = has_contains;
   same = same_toggled;
   pages = λ old places groups rows within below size is.
+      let long : rows ≤ length (unpacked groups) = omega (arith, length-unpacked groups, size) in
       (
         record { size = size; padding = padding_toggled old (unpacked groups) places rows is within below },
-        take_toggled old (unpacked groups) places rows is within below
-        (omega (arith, length-unpacked groups, size)),
+        length-take-le rows (unpacked groups) long,
+        take_toggled old (unpacked groups) places rows is within below long,
       );
   parted = λ a b row. list_any-append (λ place. eqb place row) a b;
   absent = has_none;
