@@ -118,10 +118,7 @@ impl PageWriter {
         requires room { length self + PAGE_GROUPS < 2 ^ 30 }
         ensures { IfOk result (λ writer. writer ≡ self ++ replicate PAGE_GROUPS run.group) }
     {
-        let start = Place {
-            word: self.words.len(),
-            skipped: self.run & COUNT_BITS,
-        };
+        let start = start_behind(&self.words, self.run);
         let next = push_run(&mut self.words, self.run, run.part(PAGE_GROUPS as u32))?;
         self.starts.push(start)?;
         self.run = next;
@@ -149,10 +146,7 @@ impl PageWriter {
         requires short { run_count (slice_index words.now first.word) < first.skipped + PAGE_GROUPS }
         ensures { IfOk result (λ writer. writer ≡ self ++ pages_from words.now (length self) (length others.now + 1)) }
     {
-        let start = Place {
-            word: self.words.len(),
-            skipped: self.run & COUNT_BITS,
-        };
+        let start = start_behind(&self.words, self.run);
         let (base, next) = copy(&mut self.words, self.run, words, first, last)?;
         self.starts.push(start)?;
         push_moved(&mut self.starts, others, first.word + 1, base)?;
@@ -182,6 +176,17 @@ pub fn pages_of_list()
     ensures spelled { (groups : List ℕ) (rows : ℕ) → All (λ group. group < 2 ^ 31) groups → ArePagesOf groups rows →
         SpellPages groups (take rows (unpacked groups)) }
 {}
+
+// Where the groups behind words and the run under way begin.
+fn start_behind(words: &[u32], run: u32) -> Place
+    ensures word { result.word ≡ length words.now }
+    ensures skipped { result.skipped ≡ run % 2 ^ 30 }
+{
+    Place {
+        word: words.len(),
+        skipped: run & COUNT_BITS,
+    }
+}
 
 // Puts the run under way behind the words, where there is one.
 pub(crate) fn close(words: &mut Vec<u32>, run: u32) -> Result<(), Memory>

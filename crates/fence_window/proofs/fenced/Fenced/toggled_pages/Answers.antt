@@ -7,7 +7,7 @@ use Rattle.wah_words.specs.Rows.{IsToggled}
 use Rattle.wah_words.specs.Place.{ArePagesOf}
 use Rattle.fence_window.proofs.Toggled.{IsTurnedTo, Laws, turned_all, turned_none, turned_on}
 use Rattle.fence_window.proofs.fenced.Fenced.toggled_pages.Goals as goal
-use Rattle.fence_window.proofs.fenced.Fenced.toggled_pages.Goals.{After-toggles, Else-loop-from-test}
+use Rattle.fence_window.proofs.fenced.Fenced.toggled_pages.Goals.{After-toggles, After-loop-from}
 
 -- the laws of groups and places
 laws : (c : After-toggles) → Laws c.args.self.now
@@ -59,7 +59,7 @@ loop-from-preserved c =
     c.split_page.ensures.here c.split_page.ensures.behind (omega arith) c.toggled_page.ensures.rows)
 
 -- all rows are turned
-turned : (c : Else-loop-from-test) → Laws c.args.self.now → ArePagesOf c.loop-from.writer c.args.rows
+turned : (c : After-loop-from) → Laws c.args.self.now → ArePagesOf c.loop-from.writer c.args.rows
     × (length (take c.args.rows (unpacked c.loop-from.writer)) ≡ c.args.rows)
     × IsToggled c.args.self.now c.args.places.now (take c.args.rows (unpacked c.loop-from.writer))
 turned c known =
@@ -73,16 +73,16 @@ turned c known =
 
 pub from_pages-requires : goal.from_pages-requires
 from_pages-requires c =
-    (turned (goal.at.from_pages-requires c).Else-loop-from-test (laws (goal.at.from_pages-requires c).After-toggles)).0
+    (turned (goal.at.from_pages-requires c).After-loop-from (laws (goal.at.from_pages-requires c).After-toggles)).0
 
 pub returns-clause-length : goal.returns-clause-length
 returns-clause-length c =
     ap length c.in_ok-made.ensures
-    ∙ (turned (goal.at.returns-clause-length c).Else-loop-from-test
-    (laws (goal.at.returns-clause-length c).After-toggles)).1.0
+    ∙ (turned (goal.at.returns-clause-length c).After-loop-from
+    (laws (goal.at.returns-clause-length c).After-toggles)).1
 
 pub returns-clause-rows : goal.returns-clause-rows
 returns-clause-rows c =
     subst (IsToggled c.args.self.now c.args.places.now) (sym c.in_ok-made.ensures)
-    (turned (goal.at.returns-clause-rows c).Else-loop-from-test
-    (laws (goal.at.returns-clause-rows c).After-toggles)).1.1
+    (turned (goal.at.returns-clause-rows c).After-loop-from
+    (laws (goal.at.returns-clause-rows c).After-toggles)).2

@@ -1,10 +1,7 @@
 use Rattle.std.proofs.Common.{◌≡◌, ◌+◌, ◌++◌, ◌∙◌, ◌∷◌, [], ℕ, replicate, sym, ap, subst, arith, length}
-use Rattle.std.specs.Prelude.{bit_and}
-use Rattle.std.proofs.lemmas.Nat.{and_mask}
 use Rattle.std.proofs.lemmas.List.{length-replicate}
 use Rattle.wah_words.specs.Pages.{ArePaged}
 use Rattle.wah_words.specs.Stretch.{Extends}
-use Rattle.wah_words.specs.declared.place.Place.{Place}
 use Rattle.wah_words.proofs.Paged.{paged_more}
 use Rattle.wah_words.proofs.Copies.{groups-extended, underway-le}
 use Rattle.wah_words.proofs.pages.PageWriter.push_filled.Goals as goal
@@ -32,12 +29,13 @@ page c =
 pub invariant_of-self : goal.invariant_of-self
 invariant_of-self c =
     let is = page (goal.at.invariant_of-self c).In_ok-next in
-    let start : Place = record { word = c.len.result; skipped = bit_and c.self.inside.run 1073741823 } in
+    let start = c.start_behind-start in
     subst (λ all. ArePaged all c.in_ok-next.next c.push.new.self.items) (sym is.is)
     (subst (ArePaged (c.self.inside.words.items ++ is.written) c.in_ok-next.next) (sym c.in_ok-push.ensures.items)
     (paged_more c.self.inside.words.items c.self.inside.run c.self.inside.starts.items (replicate 128 c.args.run.group)
-    is.written c.in_ok-next.next start c.self.invariant is.writes is.fill
-    (length-replicate 128 c.args.run.group) (omega arith) (and_mask c.self.inside.run 30)))
+    is.written c.in_ok-next.next start.result c.self.invariant is.writes is.fill
+    (length-replicate 128 c.args.run.group) (start.ensures.word ∙ ap length c.deref.ensures.value)
+    start.ensures.skipped))
 
 pub returns : goal.returns
 returns c =

@@ -1,10 +1,7 @@
 use Rattle.std.proofs.Common.{◌≡◌, ℕ, ◌+◌, ◌-◌, ◌*◌, ◌++◌, ◌∙◌, ◌∷◌, [], map, sym, ap, subst, arith, length}
-use Rattle.std.specs.Prelude.{bit_and}
-use Rattle.std.proofs.lemmas.Nat.{and_mask}
 use Rattle.wah_words.specs.Word.{groups}
 use Rattle.wah_words.specs.Pages.{ArePaged, underway}
 use Rattle.wah_words.specs.Stretch.{groups_between, moved, pages_from}
-use Rattle.wah_words.specs.declared.place.Place.{Place}
 use Rattle.wah_words.proofs.Copies.{groups-extended, length-extended}
 use Rattle.wah_words.proofs.Stretched.{AreCopied, between_length, between_pages, copied_start, copied_among, copied_order, paged_copied}
 use Rattle.wah_words.proofs.pages.PageWriter.push_stretch.Goals as goal
@@ -59,14 +56,14 @@ push_moved-requires-clause-room c = λ k d within.
 
 pub invariant_of-self : goal.invariant_of-self
 invariant_of-self c =
-    let start : Place = record { word = c.len.result; skipped = bit_and c.self.inside.run 1073741823 } in
+    let start = c.start_behind-start in
     subst (ArePaged c.copy.new.out.items c.in_ok-base.next)
     (sym (c.in_ok-push_moved.ensures
     ∙ ap (λ front. front ++ map (moved (c.args.first.word + 1) c.in_ok-base.base) c.args.others.now) c.in_ok-push.ensures.items))
     (paged_copied c.self.inside.words.items c.self.inside.run c.self.inside.starts.items c.args.words.now c.args.first
-    c.args.last c.args.others.now c.copy.new.out.items c.in_ok-base.next c.in_ok-base.base start c.self.invariant
-    (copied (goal.at.invariant_of-self c).After-self) c.in_ok-base.ensures.extends c.in_ok-base.ensures.lies (omega arith)
-    (and_mask c.self.inside.run 30))
+    c.args.last c.args.others.now c.copy.new.out.items c.in_ok-base.next c.in_ok-base.base start.result c.self.invariant
+    (copied (goal.at.invariant_of-self c).After-self) c.in_ok-base.ensures.extends c.in_ok-base.ensures.lies (start.ensures.word ∙ ap length c.deref.ensures.value)
+    start.ensures.skipped)
 
 pub returns : goal.returns
 returns c =
