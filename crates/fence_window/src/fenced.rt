@@ -12,7 +12,9 @@ use crate::Memory;
 use crate::place::{advanced, or_groups};
 use std::alloc::Global;
 use std::marker::Model;
-use wah_words::{GROUP_ROWS, PAGE_GROUPS, PAGE_ROWS, PageWriter, Place, Run, Wah, laws, one_spelling, turn_rows};
+use wah_words::{
+    GROUP_ROWS, PAGE_GROUPS, PAGE_ROWS, PageWriter, Place, Run, Wah, laws, one_spelling, turn_rows,
+};
 
 /// The groups of the pages that are read at once.
 pub const BLOCK_GROUPS: usize = 32 * PAGE_GROUPS;

@@ -112,7 +112,8 @@ rest-le words n place after within inside =
     )
 
 -- the run under way behind a word stands apart from the next word, as the word does
-pub apart_next : (words : List ℕ) (v run : ℕ) → AreRuns words → v + 1 < length words → (0 < run → run_group run ≡ run_group (get_or words v 0))
+pub apart_next : (words : List ℕ) (v run : ℕ) → AreRuns words → v + 1 < length words
+    → (0 < run → run_group run ≡ run_group (get_or words v 0))
     → AreApart run (get_or words (v + 1) 0)
 apart_next words v run runs within same = λ above next equal.
     let group : run_group run ≡ run_group (get_or words v 0) = same (omega (arith, above)) in
@@ -192,7 +193,7 @@ pub apart_behind : (words : List ℕ) (v to run next : ℕ) → AreRuns words �
     → (0 < run → run_group run ≡ run_group (get_or words v 0))
     → (length (words_between words (v + 1) to) ≡ 0 → next ≡ run)
     → (0 < length (words_between words (v + 1) to) → 0 < next
-      → next ≡ get_or (words_between words (v + 1) to) (length (words_between words (v + 1) to) - 1) 0)
+    → next ≡ get_or (words_between words (v + 1) to) (length (words_between words (v + 1) to) - 1) 0)
     → AreApart next (get_or words to 0)
 apart_behind words v to run next runs order within same none last =
     let count = to - (v + 1) in

@@ -160,7 +160,8 @@ between_pages words from pages first last are =
 
 -- ---- starts
 
-front_of_front : (j count : ℕ) (words : List ℕ) → j ≤ length (take count words) → take j (take count words) ≡ take j words
+front_of_front : (j count : ℕ) (words : List ℕ) → j ≤ length (take count words)
+    → take j (take count words) ≡ take j words
 front_of_front j count words within =
     sym (take-append-le j (take count words) (drop count words) within)
     ∙ ap (take j) (take-append-drop count words)

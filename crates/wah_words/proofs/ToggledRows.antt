@@ -255,7 +255,7 @@ same_place a b c d to back =
 -- the row at one place is turned
 pub page_turned : (page : List ℕ) (first place row : ℕ) → first ≤ place → (place - first) / 31 < length page
     → group_row (get_or (set page ((place - first) / 31)
-      (bit_xor (get_or page ((place - first) / 31) 0) (2 ^ ((place - first) % 31)))) (row / 31) 0) (row % 31)
+    (bit_xor (get_or page ((place - first) / 31) 0) (2 ^ ((place - first) % 31)))) (row / 31) 0) (row % 31)
     ≡ differs (group_row (get_or page (row / 31) 0) (row % 31)) (eqb place (first + row))
 page_turned page first place row from within =
     let i = (place - first) / 31 in

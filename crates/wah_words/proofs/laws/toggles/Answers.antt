@@ -11,8 +11,7 @@ returns c = record {
   has = has_contains;
   same = same_toggled;
   pages = λ old places groups rows within below size is.
-      let long : rows ≤ length (unpacked groups) = omega (arith, length-unpacked groups, size) in
-      (
+      let long : rows ≤ length (unpacked groups) = omega (arith, length-unpacked groups, size) in (
         record { size = size; padding = padding_toggled old (unpacked groups) places rows is within below },
         length-take-le rows (unpacked groups) long,
         take_toggled old (unpacked groups) places rows is within below long,

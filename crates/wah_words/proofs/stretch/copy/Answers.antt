@@ -27,7 +27,8 @@ push_words-requires-clause-runs c =
     (omega (arith, c.requires.order, c.requires.within))
 
 -- what is under way behind the first run has its group
-same_group : (c : In_ok-run) → 0 < c.in_ok-run.run' → run_group c.in_ok-run.run' ≡ run_group (get_or c.args.words.now c.args.first.word 0)
+same_group : (c : In_ok-run) → 0 < c.in_ok-run.run'
+    → run_group c.in_ok-run.run' ≡ run_group (get_or c.args.words.now c.args.first.word 0)
 same_group c some = c.in_ok-run.ensures.group some ∙ c.part.ensures.group ∙ c.of_word-left.ensures.group
 
 pub push_words-requires-clause-apart : goal.push_words-requires-clause-apart
@@ -64,7 +65,8 @@ returns-then-last-eq0-clause-extends c =
     c.in_ok-run-2.ensures.extends)
 
 -- where the words behind the first run begin
-base_is : (words : List ℕ) (run len one : ℕ) → len ≡ length words → one ≡ bool_byte (not (eqb run 0)) → length (words ++ underway run) ≡ len + one
+base_is : (words : List ℕ) (run len one : ℕ) → len ≡ length words → one ≡ bool_byte (not (eqb run 0))
+    → length (words ++ underway run) ≡ len + one
 base_is words run len one long is = omega (arith, length-append words (underway run), long, is, underway_words run)
 
 pub returns-then-last-eq0-clause-lies : goal.returns-then-last-eq0-clause-lies

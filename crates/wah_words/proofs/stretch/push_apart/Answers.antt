@@ -26,4 +26,3 @@ returns-clause-whole c =
     ap (λ all. all ++ underway c.args.fill) c.in_ok-close.ensures
     ∙ ap (λ last. (c.args.words.now.items ++ underway c.args.run) ++ last)
     (underway-some c.args.fill (omega (arith, c.requires.above)))
-

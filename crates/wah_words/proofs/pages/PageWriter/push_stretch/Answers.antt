@@ -51,7 +51,7 @@ push_moved-requires-clause-room c = λ k d within.
     length-extended old run page new next c.in_ok-base.ensures.extends
     ∙ between_length words from to c.args.first c.args.last are.places in
     let start = copied_start words from c.args.first c.args.last c.args.others.now k d new next c.in_ok-base.base are
-        within c.in_ok-base.ensures.lies size in
+    within c.in_ok-base.ensures.lies size in
     omega (arith, start.within)
 
 pub invariant_of-self : goal.invariant_of-self
