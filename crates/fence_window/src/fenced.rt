@@ -65,8 +65,9 @@ impl Fenced {
         &self.wah
     }
 
-    /// The list with false after it up to `rows`, and then with the rows at these places turned. Where that is the same
-    /// list it takes a copy of the words and the fences, and else passes over the words.
+    /// The list with false after it up to `rows`, and then with the rows at these places turned. It takes a copy of the
+    /// words and the fences, and a step for each page in which a row is turned; where these are many, it passes over
+    /// the words.
     pub fn toggled(&self, alloc: Global, places: &[u32], rows: u32) -> Result<Fenced, Memory>
         requires rising { IsStrictlyIncreasing places.now }
         requires below { All (λ place. place < rows) places.now }
@@ -77,6 +78,7 @@ impl Fenced {
         if places.is_empty() && rows == self.wah.len() {
             return self.copied(alloc);
         }
+        // To write a page anew takes longer than to pass over its words.
         let pages = rows.div_ceil(PAGE_ROWS);
         if places.len() > pages as usize / 4 {
             return Fenced::make(alloc, self.wah.toggled(alloc, places, rows)?);
