@@ -3,4 +3,5 @@ pub mod Fences
 pub mod Ors
 pub mod Pages
 pub mod Places
+pub mod Toggled
 pub mod Windows

@@ -1,3 +1,4 @@
 pub mod Ors
 pub mod Plain
+pub mod Turned
 pub mod Window

@@ -1,17 +1,20 @@
 //! Bitvectors with a fence for each page.
-ghost use Rattle.std.specs.Prelude.{ℕ, ◌≡◌, ◌+◌, ◌*◌, ◌<◌, ◌≤◌, All, IfOk, length, take, slice_get, slice_index, bit_or};
+ghost use Rattle.std.specs.Prelude.{ℕ, ◌≡◌, ◌+◌, ◌*◌, ◌<◌, ◌≤◌, ◌^◌, ◌++◌, All, IfOk, length, take, slice_get, slice_index, bit_or};
 ghost use Rattle.std.specs.List.Sorted.{IsStrictlyIncreasing};
 ghost use Rattle.wah_words.specs.Group.{group_at, unpacked};
-ghost use Rattle.wah_words.specs.Place.{ArePagesOf, HasFences};
+ghost use Rattle.wah_words.specs.Place.{ArePagesOf, HasFences, page_count};
 ghost use Rattle.wah_words.specs.Rows.{IsToggled};
 ghost use Rattle.fence_window.specs.Ors.{IsOrInto};
+ghost use Rattle.fence_window.specs.Turned.{AreRowsToggled, IsCopied};
 ghost use Rattle.fence_window.specs.Window.{IsWindow};
 
 use crate::Memory;
 use crate::place::{advanced, or_groups};
 use std::alloc::Global;
 use std::marker::Model;
-use wah_words::{GROUP_ROWS, PAGE_GROUPS, PAGE_ROWS, PageWriter, Place, Run, Wah, one_spelling};
+use wah_words::{
+    GROUP_ROWS, PAGE_GROUPS, PAGE_ROWS, PageWriter, Place, Run, Wah, laws, one_spelling, turn_rows,
+};
 
 // The pages that are read at once.
 const BLOCK_PAGES: usize = 32;
@@ -65,8 +68,9 @@ impl Fenced {
         &self.wah
     }
 
-    /// The list with false after it up to `rows`, and then with the rows at these places turned. Where that is the same
-    /// list it takes a copy of the words and the fences, and else passes over the words.
+    /// The list with false after it up to `rows`, and then with the rows at these places turned. It takes a copy of the
+    /// words and the fences, and a step for each page in which a row is turned; where these are many, it passes over
+    /// the words.
     pub fn toggled(&self, alloc: Global, places: &[u32], rows: u32) -> Result<Fenced, Memory>
         requires rising { IsStrictlyIncreasing places.now }
         requires below { All (λ place. place < rows) places.now }
@@ -77,7 +81,71 @@ impl Fenced {
         if places.is_empty() && rows == self.wah.len() {
             return self.copied(alloc);
         }
-        Fenced::make(alloc, self.wah.toggled(alloc, places, rows)?)
+        // To write a page anew takes longer than to pass over its words.
+        let pages = rows.div_ceil(PAGE_ROWS);
+        if places.len() > pages as usize / 4 {
+            return Fenced::make(alloc, self.wah.toggled(alloc, places, rows)?);
+        }
+        self.toggled_pages(alloc, places, rows)
+    }
+
+    // The same, page by page where rows are turned, and by copies between.
+    fn toggled_pages(&self, alloc: Global, places: &[u32], rows: u32) -> Result<Fenced, Memory>
+        requires rising { IsStrictlyIncreasing places.now }
+        requires below { All (λ place. place < rows) places.now }
+        requires longer { length self.now ≤ rows }
+        ensures length { IfOk result (λ fenced. length fenced ≡ rows) }
+        ensures rows { IfOk result (λ fenced. IsToggled self.now places.now fenced) }
+    {
+        laws::groups();
+        laws::rows_of_groups();
+        laws::toggles();
+        let pages = rows.div_ceil(PAGE_ROWS);
+        let mut writer = PageWriter::with_capacity(alloc, pages)?;
+        let mut rest = places;
+        let mut from = 0;
+        while from < pages {
+            let page = copied_to(rest, from, self.fences.len());
+            writer = self.copied_pages(writer, page)?;
+            let (here, after) = split_page(rest, page);
+            writer.push_page(&self.toggled_page(page, here))?;
+            rest = after;
+            from = page + 1;
+        }
+        let made = Fenced::from_pages(writer, rows)?;
+        Ok(made)
+    }
+
+    // The pages that are written, and those of the list up to another page.
+    fn copied_pages(&self, writer: PageWriter, page: u32) -> Result<PageWriter, Memory>
+        requires whole { length writer ≤ 128 * page }
+        requires within { length writer < 128 * page → page < page_count (length self.now) }
+        requires few { length self.now < 2 ^ 32 }
+        ensures { IfOk result (λ made. IsCopied self.now writer page made) }
+    {
+        let from = writer.pages();
+        if from >= page as usize {
+            return Ok(writer);
+        }
+        let words = self.wah.words();
+        let made = writer.push_pages(words, &self.fences[from..page as usize + 1])?;
+        Ok(made)
+    }
+
+    // A page with the rows at these places turned.
+    fn toggled_page(&self, page: u32, places: &[u32]) -> [u32; PAGE_GROUPS]
+        requires rising { IsStrictlyIncreasing places.now }
+        requires from { All (λ place. PAGE_ROWS * page ≤ place) places.now }
+        requires to { All (λ place. place < PAGE_ROWS * page + PAGE_ROWS) places.now }
+        requires few { PAGE_ROWS * page < 2 ^ 32 }
+        ensures within { All (λ group. group < 2 ^ 31) result }
+        ensures rows { AreRowsToggled self.now places.now (PAGE_ROWS * page) result }
+    {
+        laws::groups();
+        let mut numbers = [0; PAGE_GROUPS];
+        self.window(page, &mut numbers);
+        turn_rows(&mut numbers, page * PAGE_ROWS, places);
+        numbers
     }
 
     // The list once more.
@@ -140,6 +208,52 @@ impl Fenced {
         let place = advanced(words, fence, group % PAGE_GROUPS as u32);
         (Run::of_word(words[place.word]).group >> (row % GROUP_ROWS)) & 1 == 1
     }
+}
+
+// The page up to which all are copied whole: the next one with a place, or the last.
+fn copied_to(places: &[u32], from: u32, fences: usize) -> u32
+    requires rising { IsStrictlyIncreasing places.now }
+    requires behind { All (λ place. PAGE_ROWS * from ≤ place) places.now }
+    ensures from { from ≤ result }
+    ensures within { from < result → result < fences }
+    ensures behind { All (λ place. PAGE_ROWS * result ≤ place) places.now }
+{
+    let next = first_page(places);
+    if next <= from || fences <= from as usize + 1 {
+        return from;
+    }
+    if (next as usize) < fences {
+        return next;
+    }
+    fences as u32 - 1
+}
+
+// The page of the first place, or the last number where there is none.
+fn first_page(places: &[u32]) -> u32
+    requires { IsStrictlyIncreasing places.now }
+    ensures { All (λ place. PAGE_ROWS * result ≤ place) places.now }
+{
+    if places.is_empty() {
+        return u32::MAX;
+    }
+    places[0] / PAGE_ROWS
+}
+
+// The places that lie in a page, and those behind it.
+fn split_page(places: &[u32], page: u32) -> (&[u32], &[u32])
+    requires { IsStrictlyIncreasing places.now }
+    ensures whole { places.now ≡ result.0.now ++ result.1.now }
+    ensures here_rising { IsStrictlyIncreasing result.0.now }
+    ensures rising { IsStrictlyIncreasing result.1.now }
+    ensures here { All (λ place. place < PAGE_ROWS * page + PAGE_ROWS) result.0.now }
+    ensures behind { All (λ place. PAGE_ROWS * page + PAGE_ROWS ≤ place) result.1.now }
+{
+    for at in 0..places.len() {
+        if places[at] / PAGE_ROWS > page {
+            return places.split_at(at);
+        }
+    }
+    places.split_at(places.len())
 }
 
 fn fences_of(alloc: Global, wah: &Wah) -> Result<Vec<Place>, Memory>

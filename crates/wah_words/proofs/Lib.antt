@@ -1,5 +1,6 @@
 pub mod Bits
 pub mod Blocks
+pub mod Copies
 pub mod Counted
 pub mod Fits
 pub mod Fronts
@@ -20,6 +21,8 @@ pub mod Runs
 pub mod Shorter
 pub mod Spelled
 pub mod Spelling
+pub mod Stretched
+pub mod Stretches
 pub mod Toggled
 pub mod ToggledRows
 pub mod Turned

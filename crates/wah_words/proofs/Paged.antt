@@ -53,7 +53,7 @@ fill_from_group w run mixed above same =
     ]
 
 -- the groups from a word on
-groups-from : (words : List ℕ) (i : ℕ) → i < length words
+pub groups-from : (words : List ℕ) (i : ℕ) → i < length words
     → groups (drop i words)
     ≡ replicate (run_count (get_or words i 0)) (run_group (get_or words i 0)) ++ groups (drop (i + 1) words)
 groups-from words i within = ap groups (drop_more words i 0 within)
@@ -149,7 +149,7 @@ first_written words run page written next opened fill is some =
 -- ---- starts
 
 -- a start stays one, whatever is written behind
-start_stays : (words : List ℕ) (run : ℕ) (page written : List ℕ) (next before : ℕ) (place : Place) → AreOpen words run
+pub start_stays : (words : List ℕ) (run : ℕ) (page written : List ℕ) (next before : ℕ) (place : Place) → AreOpen words run
     → IsUnderway run → Writes run page written next → before ≤ length (groups (words ++ underway run))
     → IsStart words before place → IsStart (words ++ written) before place
 start_stays words run page written next before place opened fill is below start =
@@ -184,7 +184,7 @@ start_stays words run page written next before place opened fill is below start 
     }
 
 -- the next page starts where the run is under way
-start_here : (words : List ℕ) (run : ℕ) (page written : List ℕ) (next before : ℕ) (place : Place) → AreOpen words run
+pub start_here : (words : List ℕ) (run : ℕ) (page written : List ℕ) (next before : ℕ) (place : Place) → AreOpen words run
     → IsUnderway run → Writes run page written next → length (groups (words ++ underway run)) ≡ before
     → place.word ≡ length words → place.skipped ≡ run % 2 ^ 30 → IsStart (words ++ written) before place
 start_here words run page written next before place opened fill is size word skipped =

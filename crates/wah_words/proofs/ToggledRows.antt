@@ -1,9 +1,9 @@
 -- Lists with some rows turned, row by row.
-use Rattle.std.proofs.Common.{◌≡◌, ◌≢◌, ℕ, ◌+◌, ◌-◌, ◌*◌, ◌/◌, ◌%◌, ◌^◌, ◌<◌, ◌≤◌, ◌∙◌, ◌↔◌, Bool, true, false, eqb, List, ◌++◌, length, get_or, take, drop, replicate, refl, sym, ap, subst, arith, inl, inr}
+use Rattle.std.proofs.Common.{◌≡◌, ◌≢◌, ℕ, ◌+◌, ◌-◌, ◌*◌, ◌/◌, ◌%◌, ◌^◌, ◌<◌, ◌≤◌, ◌∙◌, ◌↔◌, Bool, true, false, eqb, List, ◌++◌, length, get_or, take, drop, replicate, set, refl, sym, ap, subst, arith, inl, inr}
 use Rattle.std.specs.Prelude.{All, Any, Contains, IsTrue, bit_xor, ◌||◌}
 use Rattle.std.specs.Int.{bit_at}
 use Rattle.std.specs.List.Sorted.{IsStrictlyIncreasing}
-use Rattle.std.proofs.lemmas.List.{ext_get_or, get_or_append_left, get_or-append_right, get_or_past, get_or-take, get_or-drop, get_or_default, length-take-le}
+use Rattle.std.proofs.lemmas.List.{ext_get_or, get_or_append_left, get_or-append_right, get_or-set_same, get_or-set_other, get_or_past, get_or-take, get_or-drop, get_or_default, length-take-le}
 use Rattle.std.proofs.lemmas.List.Folds.{Any-from_list_any, list_any_at, list_any_more, list_any_none}
 use Rattle.std.proofs.lemmas.List.Concat.{flat_map-append}
 use Rattle.std.proofs.lemmas.List.Kept.{AllPairs-from_increasing}
@@ -11,7 +11,7 @@ use Rattle.std.proofs.lemmas.Bool.{cases_lt, cases_eq, eq-eqb, eqb-true}
 use Rattle.std.proofs.lemmas.Bool.Decides.{eqb_tells}
 use Rattle.std.proofs.lemmas.Nat.{xor_shr}
 use Rattle.std.proofs.lemmas.Nat.Bits.{bit_at-pow_same, bit_at-pow_other}
-use Rattle.wah_words.specs.Group.{group_rows, unpacked, group_count}
+use Rattle.wah_words.specs.Group.{group_row, group_rows, unpacked, group_count}
 use Rattle.wah_words.specs.Rows.{IsToggled, differs, has}
 use Rattle.wah_words.specs.Word.{groups}
 use Rattle.wah_words.specs.Canonical.{IsCanonical, spelled_rows}
@@ -139,6 +139,20 @@ place_is_new places i rising within =
     let there : get_or (take i places) k d ≡ get_or places k d = get_or-take i places k d (omega arith) in
     not_equal (get_or (take i places) k d) (get_or places i 0) (λ same. omega arith))
 
+-- a row that is none of the places
+pub has_none : (places : List ℕ) (row : ℕ) → All (λ place. place ≢ row) places → has places row ≡ false
+has_none places row each =
+    list_any_none (λ place. eqb place row) places (λ k d inside. not_equal (get_or places k d) row (each k d inside))
+
+-- turned at one place more
+pub turned_more : (value : Bool) (places : List ℕ) (i row : ℕ) → IsStrictlyIncreasing places → i < length places
+    → differs (differs value (has (take i places) row)) (eqb (get_or places i 0) row)
+    ≡ differs value (has (take (i + 1) places) row)
+turned_more value places i row rising within =
+    differs-or value (has (take i places) row) (eqb (get_or places i 0) row)
+    (λ here. ap (has (take i places)) (sym (eqb-true (get_or places i 0) row here)) ∙ place_is_new places i rising within)
+    ∙ ap (differs value) (sym (list_any_more (λ p. eqb p row) places i 0 within))
+
 -- one place more
 pub toggled_more : (old new last : List Bool) (places : List ℕ) (i : ℕ) → IsStrictlyIncreasing places
     → i < length places → IsToggled old (take i places) new
@@ -149,9 +163,7 @@ toggled_more old new last places i rising within before turned = record {
       let place = get_or places i 0 in
       turned row
       ∙ ap (λ value. differs value (eqb place row)) (before.each row)
-      ∙ differs-or (get_or old row false) (has (take i places) row) (eqb place row)
-      (λ here. ap (has (take i places)) (sym (eqb-true place row here)) ∙ place_is_new places i rising within)
-      ∙ ap (differs (get_or old row false)) (sym (list_any_more (λ p. eqb p row) places i 0 within));
+      ∙ turned_more (get_or old row false) places i row rising within;
 }
 
 -- ---- rows of a list
@@ -230,3 +242,37 @@ pub same_toggled : (old : List Bool) (places : List ℕ) (a b : List Bool) → l
     → IsToggled old places b → a ≡ b
 same_toggled old places a b long is_a is_b =
     ext_get_or false a b long (λ row within. is_a.each row ∙ sym (is_b.each row))
+
+-- ---- rows of a page
+
+same_place : (a b c d : ℕ) → (a ≡ b → c ≡ d) → (c ≡ d → a ≡ b) → eqb a b ≡ eqb c d
+same_place a b c d to back =
+    elim (cases_eq a b) [
+      | inl same ↦ eq-eqb a b same ∙ sym (eq-eqb c d (to same))
+      | inr other ↦ not_equal a b other ∙ sym (not_equal c d (λ same. other (back same)))
+    ]
+
+-- the row at one place is turned
+pub page_turned : (page : List ℕ) (first place row : ℕ) → first ≤ place → (place - first) / 31 < length page
+    → group_row (get_or (set page ((place - first) / 31)
+    (bit_xor (get_or page ((place - first) / 31) 0) (2 ^ ((place - first) % 31)))) (row / 31) 0) (row % 31)
+    ≡ differs (group_row (get_or page (row / 31) 0) (row % 31)) (eqb place (first + row))
+page_turned page first place row from within =
+    let i = (place - first) / 31 in
+    let bit = (place - first) % 31 in
+    let group = bit_xor (get_or page i 0) (2 ^ bit) in
+    let value = group_row (get_or page (row / 31) 0) (row % 31) in
+    elim (cases_eq (row / 31) i) [
+      | inl here ↦
+          let old : get_or page i 0 ≡ get_or page (row / 31) 0 = ap (λ k. get_or page k 0) (sym here) in
+          ap (λ k. group_row (get_or (set page i group) k 0) (row % 31)) here
+          ∙ ap (λ g. group_row g (row % 31)) (get_or-set_same page i group 0 within)
+          ∙ bit-xor (get_or page i 0) (2 ^ bit) (row % 31)
+          ∙ ap (λ g. differs (group_row g (row % 31)) (eqb (bit_at (2 ^ bit) (row % 31)) 1)) old
+          ∙ ap (differs value) (bit-pow bit (row % 31)
+          ∙ same_place bit (row % 31) place (first + row) (λ same. omega (arith, same, here, from)) (λ same. omega (arith, same, here, from)))
+      | inr other ↦
+          ap (λ g. group_row g (row % 31)) (get_or-set_other page i (row / 31) group 0 other)
+          ∙ sym (differs-false value)
+          ∙ ap (differs value) (sym (not_equal place (first + row) (λ same. other (omega (arith, same, from)))))
+    ]

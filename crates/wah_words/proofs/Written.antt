@@ -115,7 +115,7 @@ writes_grown run g above is room = record {
 }
 
 -- the last of open words, and a fill that the run under way does not join
-last_apart : (words : List ℕ) (run w : ℕ) → AreOpen words run → AreApart run w → 0 < length (words ++ underway run)
+pub last_apart : (words : List ℕ) (run w : ℕ) → AreOpen words run → AreApart run w → 0 < length (words ++ underway run)
     → AreApart (get_or (words ++ underway run) (length (words ++ underway run) - 1) 0) w
 last_apart words zero w opened apart some =
     let all : words ++ [] ≡ words = append-nil words in

@@ -7,6 +7,7 @@ pub mod Pages
 pub mod Place
 pub mod Rows
 pub mod Source
+pub mod Stretch
 pub mod Sum
 pub mod Walk
 pub mod Word

@@ -1,6 +1,7 @@
 //! The laws of groups and of spellings, for the layers above. These functions do nothing: where one is called, its
 //! clauses are known.
-ghost use Rattle.std.specs.Prelude.{ℕ, Bool, Contains, IsTrue, List, ◌↔◌, ◌≡◌, ◌<◌, ◌≤◌, ◌+◌, ◌-◌, ◌*◌, ◌/◌, ◌%◌, ◌^◌, ◌&&◌, ◌||◌, All, bit_and, bit_or, bit_xor, count_ones, drop, false, length, slice_index, slice_index_or, take};
+ghost use Rattle.std.specs.Prelude.{ℕ, Bool, Contains, IsTrue, List, ◌↔◌, ◌≡◌, ◌<◌, ◌≤◌, ◌+◌, ◌-◌, ◌*◌, ◌/◌, ◌%◌, ◌^◌, ◌&&◌, ◌||◌, ◌≢◌, ◌++◌, All, bit_and, bit_or, bit_xor, count_ones, drop, false, length, slice_index, slice_index_or, take};
+ghost use Rattle.wah_words.specs.Place.{ArePagesOf, page_count};
 ghost use Rattle.wah_words.specs.Group.{group_at, group_count, group_row, unpacked};
 ghost use Rattle.wah_words.specs.Rows.{IsToggled, differs, has, pointwise, true_count};
 ghost use Rattle.wah_words.specs.Sum.{sum_below};
@@ -37,6 +38,17 @@ pub fn toggles()
     // A list is determined by its length, and by what it is made of by turning rows.
     ensures same { (old : List Bool) (places : List ℕ) (a b : List Bool) → length a ≡ length b →
         IsToggled old places a → IsToggled old places b → a ≡ b }
+
+    // So is the list of groups in whole pages, with no row behind its own.
+    ensures pages { (old : List Bool) (places groups : List ℕ) (rows : ℕ) → length old ≤ rows →
+        All (λ place. place < rows) places → length groups ≡ 128 * page_count rows →
+        IsToggled old places (unpacked groups) →
+        ArePagesOf groups rows × (length (take rows (unpacked groups)) ≡ rows)
+        × IsToggled old places (take rows (unpacked groups)) }
+
+    // A row is turned where one of two lists has it.
+    ensures parted { (a b : List ℕ) (row : ℕ) → has (a ++ b) row ≡ (has a row || has b row) }
+    ensures absent { (places : List ℕ) (row : ℕ) → All (λ place. place ≢ row) places → has places row ≡ false }
 {}
 
 /// Operations on lists, group by group.

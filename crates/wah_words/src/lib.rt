@@ -10,9 +10,11 @@
 //! - `Wah::and`, `or`, `xor`, `not`: the operation on each row. `extended`: the list, and false after it. `toggled`:
 //!   the same, with the rows at some places turned. `count`, `len`: how many rows are true, and how many there are.
 //! - `Wah::words`: the words spell the list (`spelling`), and group k of the words is that of the list (`each_group`).
-//! - `PageWriter`: a list pushed page by page, 128 groups each, or without memory none; `finish`: the list of the first
-//!   rows, and where each page starts. `front_within`: how many words have at most so many groups.
-//! - `true_places`: the numbers of a page's true rows, rising. `true_rows_of`: how many rows of groups are true.
+//! - `PageWriter`: a list pushed page by page, 128 groups each, or without memory none; `push_pages`: pages of other
+//!   words as they lie; `finish`: the list of the first rows, and where each page starts. `front_within`: how many
+//!   words have at most so many groups.
+//! - `turn_rows`: a page with the rows at some places turned. `true_places`: the numbers of its true rows, rising.
+//!   `true_rows_of`: how many rows of groups are true.
 //! - `one_spelling`, `pages_of_list`, `laws`: lists, their words, pages and groups; operations, counts and turned rows
 //!   group by group; exactly which lists have a spelling. `Run::of_word`, `is_literal`: what one word stands for.
 //! - Lists that a call is lent stay as they are, and every call returns.
@@ -51,7 +53,9 @@ mod place;
 mod places;
 mod run;
 mod source;
+mod stretch;
 mod toggle;
+mod turn;
 mod wah;
 mod walk;
 
@@ -61,4 +65,5 @@ pub use pages::{PageWriter, pages_of_list};
 pub use place::{PAGE_GROUPS, PAGE_ROWS, Place};
 pub use run::{GROUP_ROWS, Run, TRUE_FILL, is_literal};
 pub use std::alloc::AllocError as Memory;
+pub use turn::turn_rows;
 pub use wah::{Wah, one_spelling};

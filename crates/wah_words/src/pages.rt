@@ -3,15 +3,18 @@
 //! The fill that is under way is kept beside the words, so that what a page adds is made apart from them: words are put
 //! at the end alone, and the start of each page is known when it is pushed. A page without a group of true rows, as
 //! most are, goes without a branch for a group.
-ghost use Rattle.std.specs.Prelude.{ℕ, List, Bool, ◌≡◌, ◌<◌, ◌≤◌, ◌+◌, ◌-◌, ◌*◌, ◌%◌, ◌^◌, ◌≢◌, if◌then◌else◌, [], ◌∷◌, ◌++◌, All, IsTrue, slice_index, IfOk, IfSome, IfNone, OnOk, OnErr, drop, take, false, length};
+ghost use Rattle.std.specs.Prelude.{ℕ, List, Bool, ◌≡◌, ◌<◌, ◌≤◌, ◌+◌, ◌-◌, ◌*◌, ◌%◌, ◌^◌, ◌≢◌, if◌then◌else◌, [], ◌∷◌, ◌++◌, All, IsTrue, slice_index, IfOk, IfSome, IfNone, OnOk, OnErr, drop, replicate, take, false, length};
 ghost use Rattle.wah_words.specs.Group.{group_at, unpacked};
 ghost use Rattle.wah_words.specs.Pages.{IsUnderway, IsWriting, false_run, underway};
-ghost use Rattle.wah_words.specs.Word.{run_count, run_group};
-ghost use Rattle.wah_words.specs.Place.{ArePagesOf, HasFences, SpellPages};
+ghost use Rattle.wah_words.specs.Canonical.{AreRuns};
+ghost use Rattle.wah_words.specs.Stretch.{AreFencesFrom, pages_from};
+ghost use Rattle.wah_words.specs.Word.{groups, run_count, run_group};
+ghost use Rattle.wah_words.specs.Place.{ArePagesOf, HasFences, IsAfter, SpellPages};
 
 use crate::Memory;
 use crate::place::{PAGE_GROUPS, PAGE_ROWS, Place};
-use crate::run::{ALL_TRUE, COUNT_BITS, FALSE_FILL, TRUE_FILL, fill_word, group_count, joins};
+use crate::run::{ALL_TRUE, COUNT_BITS, FALSE_FILL, Run, TRUE_FILL, fill_word, group_count, joins};
+use crate::stretch::{copy, push_moved, push_run, settled};
 use crate::wah::Wah;
 use std::alloc::Global;
 use std::marker::Model;
@@ -85,6 +88,72 @@ impl PageWriter {
         Ok(())
     }
 
+    /// Puts whole pages of other words at the end as they lie, from the first of these places up to the last, of which
+    /// each is where a page starts. It takes the time of a copy of the words and the places.
+    pub fn push_pages(self, words: &[u32], fences: &[Place]) -> Result<PageWriter, Memory>
+        requires runs { AreRuns words.now }
+        requires room { length (groups words.now) < 2 ^ 30 }
+        requires some { 0 < length fences.now }
+        requires within { length self + 128 * (length fences.now - 1) < length (groups words.now) }
+        requires fences { AreFencesFrom words.now (length self) fences.now }
+        ensures { IfOk result (λ writer. writer ≡ self ++ pages_from words.now (length self) (length fences.now - 1)) }
+    {
+        let mut writer = self;
+        let end = fences.len() - 1;
+        for at in 0..end {
+            let first = settled(words, fences[at]);
+            let run = Run::of_word(words[first.word]);
+            if run.count - first.skipped < PAGE_GROUPS as u32 {
+                let last = settled(words, fences[end]);
+                return writer.push_stretch(words, first, last, &fences[at + 1..end]);
+            }
+            writer = writer.push_filled(run)?;
+        }
+        Ok(writer)
+    }
+
+    // Puts a page at the end that lies in a run.
+    fn push_filled(mut self, run: Run) -> Result<PageWriter, Memory>
+        requires page { PAGE_GROUPS ≤ run.count }
+        requires room { length self + PAGE_GROUPS < 2 ^ 30 }
+        ensures { IfOk result (λ writer. writer ≡ self ++ replicate PAGE_GROUPS run.group) }
+    {
+        let start = start_behind(&self.words, self.run);
+        let next = push_run(&mut self.words, self.run, run.part(PAGE_GROUPS as u32))?;
+        self.starts.push(start)?;
+        self.run = next;
+        Ok(self)
+    }
+
+    // Puts pages at the end, of which the first begins in a run that ends before the page does, and the others at these
+    // places.
+    fn push_stretch(
+        mut self,
+        words: &[u32],
+        first: Place,
+        last: Place,
+        others: &[Place],
+    ) -> Result<PageWriter, Memory>
+        requires runs { AreRuns words.now }
+        requires room { length (groups words.now) < 2 ^ 30 }
+        requires first { IsAfter words.now (length self) first }
+        requires last { IsAfter words.now (length self + 128 * (length others.now + 1)) last }
+        requires others { AreFencesFrom words.now (length self + 128) others.now }
+        requires first_inside { first.skipped < run_count (slice_index words.now first.word) }
+        requires last_inside { last.skipped < run_count (slice_index words.now last.word) }
+        requires first_within { first.word < length words.now }
+        requires last_within { last.word < length words.now }
+        requires short { run_count (slice_index words.now first.word) < first.skipped + PAGE_GROUPS }
+        ensures { IfOk result (λ writer. writer ≡ self ++ pages_from words.now (length self) (length others.now + 1)) }
+    {
+        let start = start_behind(&self.words, self.run);
+        let (base, next) = copy(&mut self.words, self.run, words, first, last)?;
+        self.starts.push(start)?;
+        push_moved(&mut self.starts, others, first.word + 1, base)?;
+        self.run = next;
+        Ok(self)
+    }
+
     /// The bitvector of so many rows, and the start of each of its pages.
     pub fn finish(mut self, rows: u32) -> Result<(Wah, Vec<Place>), Memory>
         requires { ArePagesOf self rows }
@@ -108,8 +177,19 @@ pub fn pages_of_list()
         SpellPages groups (take rows (unpacked groups)) }
 {}
 
+// Where the groups behind words and the run under way begin.
+fn start_behind(words: &[u32], run: u32) -> Place
+    ensures word { result.word ≡ length words.now }
+    ensures skipped { result.skipped ≡ run % 2 ^ 30 }
+{
+    Place {
+        word: words.len(),
+        skipped: run & COUNT_BITS,
+    }
+}
+
 // Puts the run under way behind the words, where there is one.
-fn close(words: &mut Vec<u32>, run: u32) -> Result<(), Memory>
+pub(crate) fn close(words: &mut Vec<u32>, run: u32) -> Result<(), Memory>
     ensures { OnOk result (words.new.items ≡ words.old.items ++ underway run) }
 {
     if run != 0 {

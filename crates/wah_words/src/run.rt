@@ -61,6 +61,18 @@ impl Run {
         }
     }
 
+    /// So many groups of the run.
+    pub(crate) fn part(self, count: u32) -> Run
+        requires { count ≤ self.count }
+        ensures group { result.group ≡ self.group }
+        ensures count { result.count ≡ count }
+    {
+        Run {
+            group: self.group,
+            count,
+        }
+    }
+
     /// The run whose rows are the others.
     pub(crate) fn complement(self) -> Run
         ensures count { result.count ≡ self.count }

@@ -4,6 +4,7 @@ use std::process::Abort;
 use std::test::Fail;
 
 mod pages;
+mod toggles;
 
 // The bitvector of these words, fenced.
 fn fenced_of(alloc: Global, words: &[u32], rows: u32) -> Result<Fenced, Fail> {
