@@ -64,8 +64,8 @@ module _ (terms : Terms) (entries : List StoredDelta) (orders : List ℕ) (first
     log = subst (IsLog terms) (sym longer) (let m = one_more in record {
       limits_fit = s.log.limits_fit;
       history = history;
-      tuples = All-append (λ (x : Delta). IfSome x.after IsTuple) (deltas_of entries) (d ∷ []) s.log.tuples
-          (All-cons (λ (x : Delta). IfSome x.after IsTuple) d [] tuple (All-nil (λ (x : Delta). IfSome x.after IsTuple)));
+      tuples = let within = λ (x : Delta). IfSome x.after IsTuple in
+          All-append within (deltas_of entries) (d ∷ []) s.log.tuples (All-cons within d [] tuple (All-nil within));
       within = omega arith;
     });
     rows = λ place x at.
