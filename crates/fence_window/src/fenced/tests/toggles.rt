@@ -45,6 +45,13 @@ fn is_rising(places: &[u32]) -> bool
     true
 }
 
+// The list of so many rows that is true at these places.
+fn listed(rt: &impl Abort, alloc: Global, places: &[u32], rows: u32) -> Result<Wah, Memory> {
+    assert!(rt; is_rising(places));
+    assert!(rt; places.iter().all(|place| *place < rows));
+    Wah::from_places(alloc, places, rows)
+}
+
 // Of so many rows each whose place the step divides, from the first on.
 fn every(alloc: Global, first: u32, step: u32, rows: u32) -> Result<Vec<u32>, Memory> {
     let mut places = Vec::new(alloc);
@@ -82,7 +89,7 @@ fn rows_at_the_ends_of_pages(rt: HostRuntime) -> Result<(), Fail> {
         ] {
             let last = places.last().copied().unwrap_or(0);
             for more in [0, 1, 31, 3_968, 9_000] {
-                let longer = rows + more;
+                let longer = rows.saturating_add(more);
                 if last < longer {
                     is_toggled(&rt, alloc, &list, places, longer)?;
                 }
@@ -97,10 +104,10 @@ fn rows_in_runs_over_pages(rt: HostRuntime) -> Result<(), Fail> {
     let alloc = rt.alloc();
     for rows in [100_000, 99_200, 3_968 * 40] {
         for list in [
-            Wah::from_places(alloc, &[], rows)?,
-            Wah::from_places(alloc, &[], rows)?.not(alloc)?,
-            Wah::from_places(alloc, &[0, 3_967, 3_968, 50_000], rows)?,
-            Wah::from_places(alloc, &[3_936, 3_967, 20_000], rows)?.not(alloc)?,
+            listed(&rt, alloc, &[], rows)?,
+            listed(&rt, alloc, &[], rows)?.not(alloc)?,
+            listed(&rt, alloc, &[0, 3_967, 3_968, 50_000], rows)?,
+            listed(&rt, alloc, &[3_936, 3_967, 20_000], rows)?.not(alloc)?,
         ] {
             let list = Fenced::make(alloc, list)?;
             for places in [
@@ -112,7 +119,7 @@ fn rows_in_runs_over_pages(rt: HostRuntime) -> Result<(), Fail> {
                 &[10, 99_199],
             ] {
                 is_toggled(&rt, alloc, &list, places, rows)?;
-                is_toggled(&rt, alloc, &list, places, rows + 20_000)?;
+                is_toggled(&rt, alloc, &list, places, rows.saturating_add(20_000))?;
             }
         }
     }
