@@ -87,14 +87,6 @@ copied_are list words old from pages page is ends within each =
           ∙ each k;
     }
 
--- nothing is copied
-pub copied_none : (list : List Bool) (old : List ℕ) (page : ℕ) → length old ≡ 128 * page → IsCopied list old page old
-copied_none list old page is = record {
-  long = is;
-  before = λ k below. refl;
-  behind = λ k from below. absurd (omega (arith, is, from, below));
-}
-
 -- ---- page after page
 
 -- the rows of the pages that are written are turned at their places, and the other places are left
@@ -133,20 +125,6 @@ absent_behind : (list : List Bool) (places : List ℕ) (low row : ℕ) → Laws 
     → row < low → has places row ≡ false
 absent_behind list places low row laws each before =
     laws.absent places row (λ k d within same. absurd (omega (arith, each k d within, same, before)))
-
--- no page yet
-pub turned_none : (list : List Bool) (places writer : List ℕ) (pages : ℕ) → IsStrictlyIncreasing places → writer ≡ []
-    → IsTurnedTo list places places writer 0 pages
-turned_none list places writer pages rising none = record {
-  front = [];
-  whole = refl;
-  rising = rising;
-  before = λ k d within. absurd (omega arith);
-  behind = λ k d within. omega arith;
-  size = ap length none;
-  most = omega arith;
-  rows = λ row within. absurd (omega (arith, within, ap length none));
-}
 
 -- one page more, and those before it that are copied
 pub turned_on : (list : List Bool) (places rest writer : List ℕ) (from pages page : ℕ) (mid here after : List ℕ)
@@ -233,7 +211,8 @@ turned_all list places rest writer from pages rows laws is end count longer belo
             let far : rows ≤ row = omega (arith, past, is.size, end, count) in
             ap (λ g. group_row g (row % 31)) (get_or_past writer (row / 31) 0 (omega (arith, past)))
             ∙ laws.zero (row % 31) (omega arith)
-            ∙ sym (ap (λ value. differs value (has places row)) (get_or_past list row false (omega (arith, longer, far)))
+            ∙ sym (ap (λ value. differs value (has places row))
+                (get_or_past list row false (omega (arith, longer, far)))
             ∙ ap (differs false) (absent_front list places rows row laws below far))
       ]);
 }

@@ -149,7 +149,8 @@ first_written words run page written next opened fill is some =
 -- ---- starts
 
 -- a start stays one, whatever is written behind
-pub start_stays : (words : List ℕ) (run : ℕ) (page written : List ℕ) (next before : ℕ) (place : Place) → AreOpen words run
+pub start_stays : (words : List ℕ) (run : ℕ) (page written : List ℕ) (next before : ℕ) (place : Place)
+    → AreOpen words run
     → IsUnderway run → Writes run page written next → before ≤ length (groups (words ++ underway run))
     → IsStart words before place → IsStart (words ++ written) before place
 start_stays words run page written next before place opened fill is below start =
@@ -184,7 +185,8 @@ start_stays words run page written next before place opened fill is below start 
     }
 
 -- the next page starts where the run is under way
-pub start_here : (words : List ℕ) (run : ℕ) (page written : List ℕ) (next before : ℕ) (place : Place) → AreOpen words run
+pub start_here : (words : List ℕ) (run : ℕ) (page written : List ℕ) (next before : ℕ) (place : Place)
+    → AreOpen words run
     → IsUnderway run → Writes run page written next → length (groups (words ++ underway run)) ≡ before
     → place.word ≡ length words → place.skipped ≡ run % 2 ^ 30 → IsStart (words ++ written) before place
 start_here words run page written next before place opened fill is size word skipped =

@@ -39,5 +39,6 @@ loop-place-preserved c =
           ap (λ m. group_row (get_or (set page i (bit_xor group m)) (row / 31) 0) (row % 31)) one
           ∙ page_turned page first place row from (omega (arith, size, to))
           ∙ ap (λ value. differs value (eqb place (first + row))) (c.loop-place.invariant.rows row inside)
-          ∙ turned_more (group_row (get_or c.args.page.now (row / 31) 0) (row % 31)) places n (first + row) c.requires.rising (omega arith);
+          ∙ turned_more (group_row (get_or c.args.page.now (row / 31) 0) (row % 31)) places n
+              (first + row) c.requires.rising (omega arith);
     }

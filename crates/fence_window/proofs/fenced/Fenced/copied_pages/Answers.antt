@@ -7,7 +7,7 @@ use Rattle.wah_words.specs.Stretch.{AreFencesFrom, pages_from}
 use Rattle.wah_words.specs.declared.place.Place.{Place}
 use Rattle.fence_window.specs.Turned.{IsCopied}
 use Rattle.fence_window.proofs.Fences.{words_from_fits}
-use Rattle.fence_window.proofs.Toggled.{copied_are, copied_none, fences_part}
+use Rattle.fence_window.proofs.Toggled.{copied_are, fences_part}
 use Rattle.fence_window.proofs.fenced.Fenced.copied_pages.Goals as goal
 
 pub push_pages-requires-clause-room : goal.push_pages-requires-clause-room
@@ -44,7 +44,8 @@ returns c =
       c.if-from-page.false,
       below,
       fences,
-      length-take-le count (drop from c.deref.result.now) (omega (arith, c.if-from-page.false, below, fences, length-drop from c.deref.result.now)),
+      length-take-le count (drop from c.deref.result.now)
+          (omega (arith, c.if-from-page.false, below, fences, length-drop from c.deref.result.now)),
     ) in
     subst (IsCopied c.args.self.now writer c.args.page)
     (sym (c.in_ok-made.ensures ∙ ap (λ n. writer ++ pages_from words (length writer) n) long))

@@ -5,7 +5,7 @@ use Rattle.std.proofs.lemmas.List.{get_or_append_left, get_or_past, length-appen
 use Rattle.wah_words.specs.Group.{group_at, group_row, unpacked}
 use Rattle.wah_words.specs.Rows.{IsToggled}
 use Rattle.wah_words.specs.Place.{ArePagesOf}
-use Rattle.fence_window.proofs.Toggled.{IsTurnedTo, Laws, turned_all, turned_none, turned_on}
+use Rattle.fence_window.proofs.Toggled.{IsTurnedTo, Laws, turned_all, turned_on}
 use Rattle.fence_window.proofs.fenced.Fenced.toggled_pages.Goals as goal
 use Rattle.fence_window.proofs.fenced.Fenced.toggled_pages.Goals.{After-toggles, After-loop-from}
 
