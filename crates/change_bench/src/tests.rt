@@ -1,12 +1,15 @@
-//! Changes and merges of one caller together.
+//! Changes, merges and queries of one caller together.
 ghost use Rattle.std.specs.Prelude.{◌≡◌, ◌≤◌, ◌<◌, length};
 ghost use Rattle.cubit_base.specs.LiveRow.{HasDistinctLiveKeys};
 ghost use Rattle.version_store.specs.Store.{IsStanding};
 
 use crate::drawn::next;
 use commit_log::{CommitLog, Front, SerialLog, Setup};
-use cubit_base::{Flag, Key, Limits, LineStatus, Memory, ROW_LIMIT, Steps, Table, Tuple, laws};
+use cubit_base::{
+    Flag, Key, Limits, LineStatus, Memory, Predicate, ROW_LIMIT, Range, Steps, Table, Tuple, laws,
+};
 use merger::{MergeCount, merge_all};
+use selection::{count, rows, sum};
 use std::alloc::Global;
 use std::marker::Brand;
 use std::process::Abort;
@@ -25,6 +28,9 @@ enum Call {
     Update(Key, Tuple),
     Delete(Key),
     MergeAll,
+    Rows(Predicate),
+    Count(Predicate),
+    Sum(Predicate),
 }
 
 // What it answers.
@@ -34,7 +40,27 @@ enum Answer {
     Placed { at: u32, row: u32 },
     Stopped(OpStop),
     Merged(MergeCount),
+    // How many rows, the first and the last of them, and by how many deltas the versions were patched.
+    Rows {
+        count: u32,
+        ends: Option<(u32, u32)>,
+        patched: u32,
+    },
+    Count {
+        count: u32,
+        patched: u32,
+    },
+    Sum {
+        count: u32,
+        sum: u64,
+        patched: u32,
+    },
     NoShareLeft,
+}
+
+// The first and the last number of a list.
+fn ends_of(list: &[u32]) -> Option<(u32, u32)> {
+    Some((*list.first()?, *list.last()?))
 }
 
 fn answer_of(change: Result<Placed, OpStop>) -> Answer {
@@ -64,13 +90,14 @@ fn live(row: u32, tuple: Tuple) -> Answer {
 }
 
 // What one call comes to.
-fn answer_to<S: VersionStore, N: Ledger>(
+fn answer_to<S: VersionStore, N: Ledger, M: Ledger>(
     alloc: Global,
     log: &mut S::Log,
     store: &mut S,
     base: &Base,
     call: &Call,
     steps: &mut Steps<N>,
+    reads: &mut Steps<M>,
 ) -> Result<Answer, Memory>
     requires standing { IsStanding S.Log.terms (S.store store.old) base.now (S.over store.old log.old) }
     ensures standing { IsStanding S.Log.terms (S.store store.new) base.now (S.over store.new log.new) }
@@ -87,37 +114,64 @@ fn answer_to<S: VersionStore, N: Ledger>(
         Call::Update(key, tuple) => answer_of(update(log, store, base, key, tuple, 1, steps)),
         Call::Delete(key) => answer_of(delete(log, store, base, key, 1, steps)),
         Call::MergeAll => Answer::Merged(merge_all(alloc, log, store, base, 1, steps)?),
+        Call::Rows(predicate) => {
+            let found = rows(alloc, log, store, base, predicate, 1, steps, reads)?;
+            Answer::Rows {
+                count: found.list.len(),
+                ends: ends_of(found.list.as_slice()),
+                patched: found.patched,
+            }
+        }
+        Call::Count(predicate) => {
+            let found = count(alloc, log, store, base, predicate, 1, steps, reads)?;
+            Answer::Count {
+                count: found.count,
+                patched: found.patched,
+            }
+        }
+        Call::Sum(predicate) => {
+            let found = sum(alloc, log, store, base, predicate, 1, steps, reads)?;
+            Answer::Sum {
+                count: found.count,
+                sum: found.sum,
+                patched: found.patched,
+            }
+        }
     })
 }
 
 // What all calls come to, one after another.
-fn run<S: VersionStore, N: Ledger>(
+fn run<S: VersionStore, N: Ledger, M: Ledger>(
     alloc: Global,
     log: &mut S::Log,
     store: &mut S,
     base: &Base,
     calls: &[Call],
     steps: &mut Steps<N>,
+    reads: &mut Steps<M>,
 ) -> Result<Vec<Answer>, Memory>
     requires standing { IsStanding S.Log.terms (S.store store.old) base.now (S.over store.old log.old) }
 {
     let mut answers = Vec::new(alloc);
     for call in calls {
-        answers.push(answer_to(alloc, log, store, base, call, steps)?)?;
+        answers.push(answer_to(alloc, log, store, base, call, steps, reads)?)?;
     }
     Ok(answers)
 }
 
-fn session<S: Setup, N: Ledger>(
+fn session<S: Setup, N: Ledger, M: Ledger>(
     alloc: Global,
-    blank: Blank,
+    blanks: (Blank, Blank),
     table: Table,
     limits: Limits,
     calls: &[Call],
 ) -> Result<Vec<Answer>, Memory>
-    requires name { blank.name ≡ N.name }
-    requires parts { blank.parts ≡ N.parts }
-    requires some { 0 < N.parts }
+    requires steps_name { blanks.0.name ≡ N.name }
+    requires steps_parts { blanks.0.parts ≡ N.parts }
+    requires steps_some { 0 < N.parts }
+    requires reads_name { blanks.1.name ≡ M.name }
+    requires reads_parts { blanks.1.parts ≡ M.parts }
+    requires reads_some { 0 < M.parts }
     requires base { S.base ≡ table }
     requires limits { S.limits ≡ limits }
     requires keys { HasDistinctLiveKeys table }
@@ -126,11 +180,15 @@ fn session<S: Setup, N: Ledger>(
     requires log_limit { limits.log_limit ≤ 1_000 }
     requires tries { limits.tries ≡ 1 }
 {
-    let mut steps = Steps::<N>::make(blank);
+    let (steps, reads) = blanks;
+    let mut steps = Steps::<N>::make(steps);
+    let mut reads = Steps::<M>::make(reads);
     let base = Base::build(alloc, table, limits.row_limit)?;
     let mut log = SerialLog::<S>::make(alloc, base.rows(), 1_000, limits)?;
     let mut store = MemoryStore::make(alloc, &base, &mut log)?;
-    run(alloc, &mut log, &mut store, &base, calls, &mut steps)
+    run(
+        alloc, &mut log, &mut store, &base, calls, &mut steps, &mut reads,
+    )
 }
 
 // The answers to calls over the table of a file with these bytes, to which so many rows may be added.
@@ -138,9 +196,11 @@ fn answers<R: Abort + AllocGlobal>(
     rt: &R,
     bytes: &[u8],
     more: u32,
+    log_limit: u32,
     calls: &[Call],
 ) -> Result<Vec<Answer>, Memory>
     requires more { more ≤ 1_000 }
+    requires log_limit { log_limit ≤ 1_000 }
 {
     laws::live_rows();
     let alloc = rt.alloc();
@@ -150,10 +210,11 @@ fn answers<R: Abort + AllocGlobal>(
     };
     let limits = Limits {
         row_limit: table.len() + more,
-        log_limit: 1_000,
+        log_limit,
         tries: 1,
     };
-    session::<Brand, Brand>(alloc, Blank::new(1), table, limits, calls)
+    let blanks = (Blank::new(1), Blank::new(1));
+    session::<Brand, Brand, Brand>(alloc, blanks, table, limits, calls)
 }
 
 fn key(order: u32, line: u8) -> Key
@@ -184,6 +245,30 @@ fn first_line(qty: u8) -> Tuple
     }
 }
 
+// Every live row.
+const OPEN: Predicate = Predicate {
+    ship: None,
+    disc: None,
+    qty: None,
+    flag: None,
+    status: None,
+};
+
+fn only(number: u16) -> Option<Range> {
+    Some(Range {
+        lo: number,
+        hi: number,
+    })
+}
+
+fn summed(count: u32, sum: u64, patched: u32) -> Answer {
+    Answer::Sum {
+        count,
+        sum,
+        patched,
+    }
+}
+
 // A table of one page has 216 units.
 #[test]
 fn all_units_follow_an_update(rt: HostRuntime) -> Result<(), Fail> {
@@ -193,6 +278,7 @@ fn all_units_follow_an_update(rt: HostRuntime) -> Result<(), Fail> {
         Call::Update(first, first_line(18)),
         Call::LookUp(first),
         Call::MergeAll,
+        Call::Sum(OPEN),
         Call::LookUp(first),
         Call::MergeAll,
     ];
@@ -201,10 +287,91 @@ fn all_units_follow_an_update(rt: HostRuntime) -> Result<(), Fail> {
         placed(0, 0),
         live(0, first_line(18)),
         merged(216, 0),
+        summed(3, 63_161_736, 0),
         live(0, first_line(18)),
         merged(0, 216),
     ];
-    let said = answers(&rt, THREE_LINES.as_bytes(), 0, &calls)?;
+    let said = answers(&rt, THREE_LINES.as_bytes(), 0, 1_000, &calls)?;
+    assert_eq!(&rt; said.as_slice(), expected.as_slice());
+    Ok(())
+}
+
+// A row that is deleted stays empty, and its key comes back in another.
+#[test]
+fn a_key_comes_back(rt: HostRuntime) -> Result<(), Fail> {
+    let (five, six) = (returned(5), returned(6));
+    let again = key(2, 1);
+    let calls = [
+        Call::Insert(again, five),
+        Call::Insert(again, six),
+        Call::Delete(again),
+        Call::Insert(again, six),
+        Call::LookUp(again),
+        Call::Rows(Predicate {
+            flag: only(2),
+            ..OPEN
+        }),
+    ];
+    let one = Front {
+        len: 1,
+        rows: 4,
+        node: 1,
+    };
+    let expected = [
+        placed(0, 3),
+        Answer::Stopped(OpStop::Duplicate(one, 3)),
+        placed(1, 3),
+        placed(2, 4),
+        live(4, six),
+        Answer::Rows {
+            count: 1,
+            ends: Some((4, 4)),
+            patched: 3,
+        },
+    ];
+    let said = answers(&rt, THREE_LINES.as_bytes(), 2, 1_000, &calls)?;
+    assert_eq!(&rt; said.as_slice(), expected.as_slice());
+    Ok(())
+}
+
+fn returned(qty: u8) -> Tuple
+    requires { (1 ≤ qty) × (qty ≤ 50) }
+{
+    Tuple {
+        price: 1_000,
+        day: 1096,
+        qty,
+        disc: 1,
+        tax: 0,
+        flag: Flag::R,
+        status: LineStatus::F,
+    }
+}
+
+// Where the log is full no row changes, and all that changed before is counted.
+#[test]
+fn a_full_log(rt: HostRuntime) -> Result<(), Fail> {
+    let calls = [
+        Call::Update(key(1, 1), first_line(1)),
+        Call::Update(key(1, 2), first_line(2)),
+        Call::Update(key(1, 3), first_line(3)),
+        Call::Count(OPEN),
+    ];
+    let two = Front {
+        len: 2,
+        rows: 3,
+        node: 2,
+    };
+    let expected = [
+        placed(0, 0),
+        placed(1, 1),
+        Answer::Stopped(OpStop::LogFull(two)),
+        Answer::Count {
+            count: 3,
+            patched: 2,
+        },
+    ];
+    let said = answers(&rt, THREE_LINES.as_bytes(), 0, 2, &calls)?;
     assert_eq!(&rt; said.as_slice(), expected.as_slice());
     Ok(())
 }
@@ -238,20 +405,27 @@ fn plain_lines(alloc: Global, count: u32) -> Result<String, Memory> {
 #[test]
 fn rows_on_a_new_page(rt: HostRuntime) -> Result<(), Fail> {
     let (eleven, twelve) = (plain_line(11), plain_line(12));
+    let elevens = Predicate {
+        qty: only(11),
+        ..OPEN
+    };
     let calls = [
         Call::Update(key(1, 1), twelve),
         Call::MergeAll,
         Call::Insert(key(5000, 1), eleven),
         Call::Insert(key(5001, 1), eleven),
         Call::Insert(key(5002, 1), eleven),
+        Call::Rows(elevens),
+        Call::Sum(elevens),
         Call::LookUp(key(1, 1)),
         Call::LookUp(key(5001, 1)),
         Call::MergeAll,
+        Call::Sum(elevens),
         Call::LookUp(key(5000, 1)),
         Call::LookUp(key(3967, 1)),
     ];
     let text = plain_lines(rt.alloc(), 3_967)?;
-    let said = answers(&rt, text.as_bytes(), 2, &calls)?;
+    let said = answers(&rt, text.as_bytes(), 2, 1_000, &calls)?;
     let full = Front {
         len: 3,
         rows: 3_969,
@@ -263,9 +437,16 @@ fn rows_on_a_new_page(rt: HostRuntime) -> Result<(), Fail> {
         placed(1, 3_967),
         placed(2, 3_968),
         Answer::Stopped(OpStop::TableFull(full)),
+        Answer::Rows {
+            count: 2,
+            ends: Some((3_967, 3_968)),
+            patched: 2,
+        },
+        summed(2, 100_000, 2),
         live(0, twelve),
         live(3_968, eleven),
         merged(217, 0),
+        summed(2, 100_000, 0),
         live(3_967, eleven),
         live(3_966, plain_line(10)),
     ];
@@ -302,9 +483,9 @@ fn three_hundred_calls_with_merges_between(rt: HostRuntime) -> Result<(), Fail> 
         }
     }
     let text = plain_lines(alloc, 100)?;
-    let expected = answers(&rt, text.as_bytes(), 100, &calls)?;
+    let expected = answers(&rt, text.as_bytes(), 100, 1_000, &calls)?;
     let mut said = Vec::new(alloc);
-    for answer in &answers(&rt, text.as_bytes(), 100, &with_merges)? {
+    for answer in &answers(&rt, text.as_bytes(), 100, 1_000, &with_merges)? {
         if !is_of_merge(answer) {
             said.push(*answer)?;
         }

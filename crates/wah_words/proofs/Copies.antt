@@ -1,6 +1,6 @@
 -- Words between two places that are copied behind open words.
-use Rattle.std.proofs.Common.{◌≡◌, ℕ, zero, suc, ◌+◌, ◌-◌, ◌*◌, ◌%◌, ◌^◌, ◌<◌, ◌≤◌, ◌∙◌, List, [], ◌∷◌, ◌++◌, length, get_or, take, drop, replicate, refl, sym, ap, subst, arith, inl, inr, not, eqb}
-use Rattle.std.proofs.lemmas.List.{append-nil, append_assoc, length-append, length-drop, length-replicate, length_push, drop_all, get_or-drop, get_or-take, get_or_push, get_or_append_left, length-take-le}
+use Rattle.std.proofs.Common.{◌≡◌, ℕ, zero, suc, ◌+◌, ◌-◌, ◌%◌, ◌^◌, ◌<◌, ◌≤◌, ◌∙◌, List, ◌++◌, length, get_or, take, drop, replicate, refl, sym, ap, subst, arith, inl, inr, not, eqb}
+use Rattle.std.proofs.lemmas.List.{length-append, length-drop, length-replicate, drop_all, get_or-drop, get_or-take, length-take-le}
 use Rattle.std.proofs.lemmas.List.Elements.{All-take, All-drop}
 use Rattle.std.proofs.lemmas.List.Concat.{flat_map-append}
 use Rattle.std.proofs.lemmas.Bool.{cases_lt, ne_eqb}
@@ -8,13 +8,12 @@ use mir.Val.{bool_byte}
 use Rattle.wah_words.specs.Word.{groups, run_group, run_count, word_groups}
 use Rattle.wah_words.specs.Canonical.{AreRuns, AreApart, IsMixedLiteral, IsCountedFill}
 use Rattle.wah_words.specs.declared.place.Place.{Place}
-use Rattle.wah_words.specs.Pages.{underway, IsUnderway, AreOpen, Writes}
+use Rattle.wah_words.specs.Pages.{underway, IsUnderway}
 use Rattle.wah_words.specs.Place.{IsAfter}
-use Rattle.wah_words.specs.Stretch.{Extends, Lies, groups_between, words_between}
+use Rattle.wah_words.specs.Stretch.{Extends, Lies, words_between}
 use Rattle.wah_words.proofs.Words.{groups-split, length-groups-take-more, run_count-fill, run_count-literal, run_group-grown}
-use Rattle.wah_words.proofs.Written.{underway-some, underway-few}
+use Rattle.wah_words.proofs.Written.{underway-some}
 use Rattle.wah_words.proofs.Paged.{groups-from, groups-written, length-underway, fill_from_group}
-use Rattle.wah_words.proofs.Stretches.{extends_more}
 
 -- ---- places
 

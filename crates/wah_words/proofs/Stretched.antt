@@ -1,15 +1,15 @@
 -- Pages that are copied: their groups, and where they start.
-use Rattle.std.proofs.Common.{◌≡◌, ℕ, zero, suc, ◌+◌, ◌-◌, ◌*◌, ◌%◌, ◌^◌, ◌<◌, ◌≤◌, ◌∙◌, List, [], ◌∷◌, ◌++◌, length, get_or, take, drop, map, replicate, refl, sym, ap, subst, arith, inl, inr, take-add}
+use Rattle.std.proofs.Common.{◌≡◌, ℕ, ◌+◌, ◌-◌, ◌*◌, ◌%◌, ◌^◌, ◌<◌, ◌≤◌, ◌∙◌, List, [], ◌∷◌, ◌++◌, length, get_or, take, drop, map, replicate, refl, sym, ap, subst, arith, inl, inr, take-add}
 use Rattle.std.proofs.Math.Seq.{take-append-add}
 use Rattle.std.proofs.lemmas.List.{append_assoc, drop_at, drop-drop, get_or-append_right, get_or-drop, get_or-map, get_or-take, get_or_append_left, get_or_push, length-append, length-drop, length-map, length-replicate, length-take-le, length_push, replicate-append-replicate, take-append-drop, take-append-le, take_all, take_at}
 use Rattle.std.proofs.lemmas.List.Concat.{flat_map-append}
 use Rattle.std.proofs.lemmas.Bool.{cases_lt}
 use Rattle.wah_words.specs.Word.{groups, run_group, run_count, word_groups}
 use Rattle.wah_words.specs.declared.place.Place.{Place}
-use Rattle.wah_words.specs.Pages.{underway, IsUnderway, AreOpen, ArePaged, IsStart}
+use Rattle.wah_words.specs.Pages.{underway, AreOpen, ArePaged, IsStart}
 use Rattle.wah_words.specs.Place.{IsAfter, groups_from}
 use Rattle.wah_words.specs.Stretch.{AreFencesFrom, Extends, Lies, groups_between, moved, pages_from, words_between}
-use Rattle.wah_words.proofs.Words.{groups-split, length-groups-take-more, length-groups-take-le}
+use Rattle.wah_words.proofs.Words.{groups-split, length-groups-take-more}
 use Rattle.wah_words.proofs.Written.{underway-few}
 use Rattle.wah_words.proofs.Paged.{groups-from, start_here, start_stays}
 use Rattle.wah_words.proofs.Copies.{place_within, place_count, place_some, length-extended}

@@ -1,14 +1,13 @@
 -- Groups that go behind open words as they lie in others.
-use Rattle.std.proofs.Common.{◌≡◌, ℕ, zero, suc, ◌+◌, ◌-◌, ◌*◌, ◌%◌, ◌^◌, ◌<◌, ◌≤◌, ◌∙◌, List, [], ◌∷◌, ◌++◌, length, get_or, take, drop, replicate, refl, sym, ap, subst, arith, inl, inr}
-use Rattle.std.proofs.lemmas.List.{append-nil, append_assoc, length-append, length_push, get_or_append_left, get_or_push}
+use Rattle.std.proofs.Common.{◌≡◌, ℕ, ◌+◌, ◌-◌, ◌%◌, ◌^◌, ◌<◌, ◌≤◌, ◌∙◌, List, [], ◌∷◌, ◌++◌, length, get_or, replicate, sym, ap, subst, arith}
+use Rattle.std.proofs.lemmas.List.{append-nil, append_assoc, length_push, get_or_push}
 use Rattle.std.proofs.lemmas.List.Concat.{flat_map-append}
-use Rattle.std.proofs.lemmas.Bool.{cases_lt}
 use Rattle.wah_words.specs.Word.{groups, run_group, run_count, word_groups}
 use Rattle.wah_words.specs.Canonical.{AreRuns, AreApart}
 use Rattle.wah_words.specs.Pages.{underway, IsUnderway, AreOpen, Writes}
 use Rattle.wah_words.specs.Stretch.{Extends}
 use Rattle.wah_words.proofs.Runs.{AreRuns-append}
-use Rattle.wah_words.proofs.Words.{groups-push, groups-grown, AreRuns-push, AreRuns-grown, AreRuns-front, counted_last, run_count-fill}
+use Rattle.wah_words.proofs.Words.{groups-push, groups-grown, AreRuns-push, AreRuns-grown, counted_last, run_count-fill}
 use Rattle.wah_words.proofs.Written.{underway-some, writes_none, writes_more, last_apart}
 
 -- the run under way counts so many groups more

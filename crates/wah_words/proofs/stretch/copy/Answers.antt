@@ -1,10 +1,10 @@
-use Rattle.std.proofs.Common.{◌≡◌, ℕ, ◌+◌, ◌-◌, ◌%◌, ◌^◌, ◌<◌, ◌≤◌, ◌∙◌, ◌++◌, [], ◌∷◌, List, not, eqb, drop, get_or, length, replicate, take, sym, ap, arith, refl, subst}
+use Rattle.std.proofs.Common.{◌≡◌, ℕ, ◌+◌, ◌-◌, ◌^◌, ◌<◌, ◌≤◌, ◌∙◌, ◌++◌, [], ◌∷◌, List, not, eqb, get_or, length, replicate, sym, ap, arith, subst}
 use mir.Val.{bool_byte}
-use Rattle.std.proofs.lemmas.List.{append-nil, append_assoc, length-append}
+use Rattle.std.proofs.lemmas.List.{append-nil, length-append}
 use Rattle.wah_words.specs.Word.{groups, run_count, run_group}
-use Rattle.wah_words.specs.Canonical.{AreApart, AreRuns}
+use Rattle.wah_words.specs.Canonical.{AreApart}
 use Rattle.wah_words.specs.Pages.{underway}
-use Rattle.wah_words.specs.Stretch.{Extends, Lies, groups_between, words_between}
+use Rattle.wah_words.specs.Stretch.{Extends, words_between}
 use Rattle.wah_words.proofs.Copies.{rest-le, underway-le, apart_next, apart_behind, runs_between, first_between, IsPart, part_is, underway_words, lies_behind}
 use Rattle.wah_words.proofs.Stretches.{extends_more}
 use Rattle.wah_words.proofs.stretch.copy.Goals as goal

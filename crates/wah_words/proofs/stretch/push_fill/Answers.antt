@@ -1,12 +1,11 @@
-use Rattle.std.proofs.Common.{◌≡◌, ◌+◌, ◌%◌, ◌^◌, ◌∙◌, ◌++◌, [], sym, ap, arith, refl, replicate, subst}
+use Rattle.std.proofs.Common.{◌≡◌, ◌+◌, ◌∙◌, [], sym, ap, arith, refl, replicate, subst}
 use Rattle.std.specs.Prelude.{bit_and}
 use Rattle.std.proofs.lemmas.Nat.{and_mask}
 use Rattle.std.proofs.lemmas.List.{append-nil}
-use Rattle.wah_words.specs.Pages.{underway, Writes}
+use Rattle.wah_words.specs.Pages.{Writes}
 use Rattle.wah_words.specs.Word.{run_count, run_group}
 use Rattle.wah_words.proofs.Words.{run_count-fill, run_group-grown}
-use Rattle.wah_words.proofs.Written.{underway-some}
-use Rattle.wah_words.proofs.Stretches.{writes_longer, writes_run}
+use Rattle.wah_words.proofs.Stretches.{writes_longer}
 use Rattle.wah_words.proofs.stretch.push_fill.Goals as goal
 
 pub returns-then-joins-clause-extends : goal.returns-then-joins-clause-extends

@@ -1,4 +1,4 @@
-use Rattle.std.proofs.Common.{◌+◌, ◌∙◌, ◌++◌, [], ◌∷◌, ap, arith, replicate, subst, sym}
+use Rattle.std.proofs.Common.{◌∙◌, ◌++◌, [], ◌∷◌, ap, arith, replicate, subst, sym}
 use Rattle.std.proofs.lemmas.List.{append_assoc}
 use Rattle.wah_words.specs.Pages.{underway, Writes}
 use Rattle.wah_words.proofs.Written.{writes_literal}

@@ -1,5 +1,5 @@
-use Rattle.std.proofs.Common.{◌≡◌, ◌+◌, ◌∙◌, ◌++◌, ◌<◌, ◌≤◌, ◌^◌, [], ◌∷◌, inl, inr, sym, ap, arith, refl, subst, List, ℕ, length, get_or}
-use Rattle.std.proofs.lemmas.List.{append-nil, append_assoc, length_push, nil_from_length}
+use Rattle.std.proofs.Common.{◌≡◌, ◌∙◌, ◌++◌, ◌≤◌, ◌^◌, [], ◌∷◌, inl, inr, sym, ap, arith, refl, subst, length, get_or}
+use Rattle.std.proofs.lemmas.List.{append_assoc, length_push, nil_from_length}
 use Rattle.std.proofs.lemmas.Bool.{cases_lt}
 use Rattle.wah_words.specs.Word.{groups}
 use Rattle.wah_words.specs.Canonical.{AreApart, AreRuns}

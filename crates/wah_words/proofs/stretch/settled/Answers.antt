@@ -1,4 +1,4 @@
-use Rattle.std.proofs.Common.{◌≡◌, ◌+◌, ◌∙◌, sym, ap, arith, subst, drop, get_or, replicate}
+use Rattle.std.proofs.Common.{◌≡◌, ◌+◌, ◌∙◌, sym, ap, arith, drop, get_or, replicate}
 use Rattle.std.proofs.lemmas.List.{drop_at, length-replicate}
 use Rattle.wah_words.specs.Word.{groups, run_count, run_group}
 use Rattle.wah_words.proofs.Paged.{groups-from}

@@ -1,11 +1,10 @@
-use Rattle.std.proofs.Common.{ℕ, ◌≡◌, ◌+◌, ◌-◌, ◌*◌, ◌/◌, ◌%◌, ◌<◌, ◌≤◌, ◌^◌, ◌∙◌, get_or, set, eqb, length, take, refl, sym, ap, subst, arith}
-use Rattle.std.specs.Prelude.{All, bit_xor}
+use Rattle.std.proofs.Common.{◌≡◌, ◌+◌, ◌-◌, ◌*◌, ◌/◌, ◌%◌, ◌<◌, ◌≤◌, ◌^◌, ◌∙◌, get_or, set, eqb, sym, ap, arith}
+use Rattle.std.specs.Prelude.{bit_xor}
 use Rattle.std.proofs.Math.ListN.{length-set}
-use Rattle.std.proofs.lemmas.List.{take_all}
 use Rattle.std.proofs.lemmas.List.Elements.{All-set}
 use Rattle.std.proofs.lemmas.Nat.{one_shl, xor_lt, pow_below}
 use Rattle.wah_words.specs.Group.{group_row}
-use Rattle.wah_words.specs.Rows.{differs, has}
+use Rattle.wah_words.specs.Rows.{differs}
 use Rattle.wah_words.proofs.ToggledRows.{page_turned, turned_more, differs-false}
 use Rattle.wah_words.proofs.turn.turn_rows.Goals as goal
 

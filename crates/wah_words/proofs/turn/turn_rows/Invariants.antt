@@ -1,4 +1,4 @@
-use Rattle.std.proofs.Common.{ℕ, ◌≡◌, ◌+◌, ◌*◌, ◌/◌, ◌%◌, ◌<◌, ◌^◌, length, slice_index, take}
+use Rattle.std.proofs.Common.{ℕ, ◌≡◌, ◌+◌, ◌/◌, ◌%◌, ◌<◌, ◌^◌, length, slice_index, take}
 use Rattle.std.specs.Prelude.{All}
 use Rattle.wah_words.specs.Group.{group_row}
 use Rattle.wah_words.specs.Rows.{differs, has}

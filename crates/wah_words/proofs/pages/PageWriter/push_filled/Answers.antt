@@ -1,4 +1,4 @@
-use Rattle.std.proofs.Common.{◌≡◌, ◌+◌, ◌++◌, ◌∙◌, ◌∷◌, [], ℕ, replicate, sym, ap, subst, arith, length}
+use Rattle.std.proofs.Common.{◌++◌, ◌∙◌, replicate, sym, ap, subst, arith, length}
 use Rattle.std.proofs.lemmas.List.{length-replicate}
 use Rattle.wah_words.specs.Pages.{ArePaged}
 use Rattle.wah_words.specs.Stretch.{Extends}

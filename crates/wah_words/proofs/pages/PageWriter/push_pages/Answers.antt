@@ -1,8 +1,7 @@
-use Rattle.std.proofs.Common.{◌≡◌, ℕ, List, ◌+◌, ◌-◌, ◌*◌, ◌<◌, ◌≤◌, ◌++◌, ◌∙◌, drop, get_or, length, replicate, take, refl, sym, ap, subst, arith}
+use Rattle.std.proofs.Common.{◌≡◌, ℕ, List, ◌+◌, ◌-◌, ◌*◌, ◌≤◌, ◌++◌, ◌∙◌, drop, length, replicate, take, refl, sym, ap, subst, arith}
 use Rattle.std.specs.Prelude.{IfOk}
 use Rattle.std.proofs.lemmas.List.{append_assoc, length-append, length-drop, length-take-le}
-use Rattle.wah_words.specs.Word.{groups, run_count, run_group}
-use Rattle.wah_words.specs.Place.{IsAfter}
+use Rattle.wah_words.specs.Word.{groups}
 use Rattle.wah_words.specs.Stretch.{pages_from}
 use Rattle.wah_words.proofs.Copies.{place_within}
 use Rattle.wah_words.proofs.Stretched.{pages_more, pages_one, length-pages}

@@ -1,4 +1,4 @@
-use Rattle.std.proofs.Common.{◌≡◌, ℕ, ◌+◌, ◌-◌, ◌*◌, ◌++◌, ◌∙◌, ◌∷◌, [], map, sym, ap, subst, arith, length}
+use Rattle.std.proofs.Common.{◌≡◌, ◌+◌, ◌*◌, ◌++◌, ◌∙◌, map, sym, ap, subst, arith, length}
 use Rattle.wah_words.specs.Word.{groups}
 use Rattle.wah_words.specs.Pages.{ArePaged, underway}
 use Rattle.wah_words.specs.Stretch.{groups_between, moved, pages_from}
