@@ -207,7 +207,8 @@ fn append<S: Setup, N: Ledger>(
     }
 }
 
-// Takes the versions of one bin at the front of all deltas, and reads it: how long both take, and its groups' sum.
+// Takes the versions of one bin at the front of all deltas, and reads it: how long both take, and the sum of its
+// groups.
 fn taken<S: VersionStore, N: Ledger, R: Clock + AllocGlobal>(
     rt: &R,
     log: &mut S::Log,

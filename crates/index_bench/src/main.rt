@@ -1,6 +1,7 @@
 //! A program that measures the index over the table of a `lineitem` file: how long `Base::build` takes, of it the key
 //! pages, and a search for a key. It prints a checksum of all bitvectors, unions and pages, and of the rows that were
 //! found, which `bench/index` compares with that of its twin, and on demand how long the fastest of its rounds took.
+//! It also tells how long units take to be carried over deltas, and a bin to be taken and read at a front.
 //!
 //! # Proved
 //!
