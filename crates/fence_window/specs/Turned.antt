@@ -1,5 +1,5 @@
 -- Pages of a list, copied or with some rows turned.
-use Rattle.std.specs.Prelude.{ℕ, ◌≡◌, ◌+◌, ◌*◌, ◌/◌, ◌%◌, ◌<◌, ◌≤◌, Bool, false, List, ◌++◌, length, slice_index, slice_index_or}
+use Rattle.std.specs.Prelude.{ℕ, ◌≡◌, ◌+◌, ◌*◌, ◌/◌, ◌%◌, ◌<◌, ◌≤◌, Bool, false, List, length, slice_index, slice_index_or}
 use Rattle.wah_words.specs.Group.{group_at, group_row}
 use Rattle.wah_words.specs.Rows.{differs, has}
 

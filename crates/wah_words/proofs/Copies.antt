@@ -133,7 +133,7 @@ pub lies_behind : (words : List ℕ) (run : ℕ) (old : List ℕ) (first : Place
     → IsAfter words (length (groups (old ++ underway run))) first → first.word < length words
     → first.skipped < run_count (get_or words first.word 0)
     → Extends old run (replicate (run_count (get_or words first.word 0) - first.skipped)
-        (run_group (get_or words first.word 0))) front next
+    (run_group (get_or words first.word 0))) front next
     → all ≡ ((front ++ underway next) ++ take count (drop (first.word + 1) words)) ++ rest
     → length (front ++ underway next) ≡ base → length rest ≤ 1
     → Lies all base words (first.word + 1) count

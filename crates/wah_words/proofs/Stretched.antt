@@ -114,7 +114,7 @@ between_from : (words : List ℕ) (from to : ℕ) (first last : Place) → AreAp
 between_from words from to first last are =
     let a = first.word + 1 in
     let run = replicate (run_count (get_or words first.word 0) - first.skipped)
-        (run_group (get_or words first.word 0)) in
+    (run_group (get_or words first.word 0)) in
     let mid = groups (words_between words a last.word) in
     let part = replicate last.skipped (run_group (get_or words last.word 0)) in
     let parts : a + (last.word - a) ≡ last.word = omega (arith, are.order) in
@@ -178,7 +178,7 @@ moved_start words all base a count k place new run lies whole after some room lo
     let front = lies.front in
     let at = base + j in
     let mid_long : length mid ≡ count = length-take-le count (drop a words)
-        (omega (arith, room, length-drop a words)) in
+    (omega (arith, room, length-drop a words)) in
     let near : j ≤ count = omega (arith, low, high) in
     let here : a + j ≡ place.word = omega (arith, low) in
     let fronts : length (front ++ mid) ≡ base + count = omega (arith, length-append front mid, lies.at, mid_long) in
@@ -302,8 +302,11 @@ copied_among words from first last others i d are within =
       after = after;
       some = some;
       low = place_behind words k place (first.word + 1) after some
-          (omega (arith, first_short words from first are.places.after_first start_within are.places.first_inside
-              are.short));
+          (omega (
+            arith,
+            first_short words from first are.places.after_first start_within are.places.first_inside
+                are.short,
+          ));
       high = place_before words k to place last after are.places.after_last
           (omega (arith, within)) all are.places.last_inside;
     }
@@ -379,7 +382,7 @@ paged_copied old run starts words first last others new next base start paged ar
 -- some pages and some more
 pub pages_more : (words : List ℕ) (before pages more : ℕ)
     → pages_from words before (pages + more) ≡ pages_from words before pages ++ pages_from words
-        (before + 128 * pages) more
+    (before + 128 * pages) more
 pages_more words before pages more =
     let size : 128 * (pages + more) ≡ 128 * pages + 128 * more = omega arith in
     ap (λ n. take n (drop before (groups words))) size

@@ -151,7 +151,7 @@ pub turned_more : (value : Bool) (places : List ℕ) (i row : ℕ) → IsStrictl
 turned_more value places i row rising within =
     differs-or value (has (take i places) row) (eqb (get_or places i 0) row)
     (λ here. ap (has (take i places)) (sym (eqb-true (get_or places i 0) row here))
-        ∙ place_is_new places i rising within)
+    ∙ place_is_new places i rising within)
     ∙ ap (differs value) (sym (list_any_more (λ p. eqb p row) places i 0 within))
 
 -- one place more
@@ -272,7 +272,7 @@ page_turned page first place row from within =
           ∙ ap (λ g. differs (group_row g (row % 31)) (eqb (bit_at (2 ^ bit) (row % 31)) 1)) old
           ∙ ap (differs value) (bit-pow bit (row % 31)
           ∙ same_place bit (row % 31) place (first + row) (λ same. omega (arith, same, here, from))
-              (λ same. omega (arith, same, here, from)))
+          (λ same. omega (arith, same, here, from)))
       | inr other ↦
           ap (λ g. group_row g (row % 31)) (get_or-set_other page i (row / 31) group 0 other)
           ∙ sym (differs-false value)

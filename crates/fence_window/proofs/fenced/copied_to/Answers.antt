@@ -1,4 +1,4 @@
-use Rattle.std.proofs.Common.{◌*◌, ◌-◌, arith}
+use Rattle.std.proofs.Common.{arith}
 use Rattle.fence_window.proofs.fenced.copied_to.Goals as goal
 
 pub returns-clause-behind : goal.returns-clause-behind

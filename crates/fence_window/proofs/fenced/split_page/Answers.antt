@@ -1,4 +1,4 @@
-use Rattle.std.proofs.Common.{◌*◌, ◌+◌, ◌≤◌, ◌∙◌, ap, arith, get_or, length, subst, sym}
+use Rattle.std.proofs.Common.{◌*◌, ◌+◌, ◌≤◌, arith, subst, sym}
 use Rattle.std.specs.Prelude.{All}
 use Rattle.fence_window.proofs.Toggled.{from_place}
 use Rattle.fence_window.proofs.fenced.split_page.Goals as goal

@@ -1,7 +1,6 @@
-use Rattle.std.proofs.Common.{ℕ, ◌≡◌, ◌+◌, ◌*◌, ◌/◌, ◌∙◌, ◌++◌, List, [], length, get_or, take, drop, sym, ap, subst, arith}
-use Rattle.std.proofs.lemmas.List.{length-append, take-append-drop}
-use Rattle.std.proofs.lemmas.List.Concat.{flat_map-append}
-use Rattle.wah_words.specs.Word.{groups, word_groups}
+use Rattle.std.proofs.Common.{◌≡◌, ◌+◌, ◌*◌, ◌/◌, ◌∙◌, ◌++◌, [], length, get_or, take, drop, sym, ap, subst, arith}
+use Rattle.std.proofs.lemmas.List.{length-append}
+use Rattle.wah_words.specs.Word.{groups}
 use Rattle.fence_window.specs.Ors.{OrsAt}
 use Rattle.fence_window.proofs.Ors.{ors_none, ors_append, ors_full}
 use Rattle.fence_window.proofs.Blocks.{groups-parted, groups-take_add, get_or-first_chunks}

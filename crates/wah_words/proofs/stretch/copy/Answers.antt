@@ -44,18 +44,18 @@ push_words-requires-clause-apart c = λ some.
 -- the first run, as it was put behind
 first_run : (c : In_ok-run) → Extends c.args.out.now.items c.args.run
     (replicate (run_count (get_or c.args.words.now c.args.first.word 0) - c.args.first.skipped)
-        (run_group (get_or c.args.words.now c.args.first.word 0)))
+    (run_group (get_or c.args.words.now c.args.first.word 0)))
     c.push_run.new.words.items c.in_ok-run.run'
 first_run c =
     let count : c.part.result.count ≡ run_count (get_or c.args.words.now c.args.first.word 0) - c.args.first.skipped =
     c.part.ensures.count ∙ ap (λ n. n - c.args.first.skipped) c.of_word-left.ensures.count in
     let group = c.part.ensures.group ∙ c.of_word-left.ensures.group in
     subst (λ n. Extends c.args.out.now.items c.args.run
-        (replicate n (run_group (get_or c.args.words.now c.args.first.word 0))) c.push_run.new.words.items
-        c.in_ok-run.run') count
+    (replicate n (run_group (get_or c.args.words.now c.args.first.word 0))) c.push_run.new.words.items
+    c.in_ok-run.run') count
     (subst (λ g. Extends c.args.out.now.items c.args.run
-        (replicate c.part.result.count g) c.push_run.new.words.items c.in_ok-run.run') group
-        c.in_ok-run.ensures.extends)
+    (replicate c.part.result.count g) c.push_run.new.words.items c.in_ok-run.run') group
+    c.in_ok-run.ensures.extends)
 
 pub returns-then-last-eq0-clause-extends : goal.returns-then-last-eq0-clause-extends
 returns-then-last-eq0-clause-extends c =
@@ -64,11 +64,11 @@ returns-then-last-eq0-clause-extends c =
     let last = c.args.last in
     let mid = groups (words_between words (first.word + 1) last.word) in
     let run = replicate (run_count (get_or words first.word 0) - first.skipped)
-        (run_group (get_or words first.word 0)) in
+    (run_group (get_or words first.word 0)) in
     let end : mid ≡ mid ++ replicate last.skipped (run_group (get_or words last.word 0)) =
     sym (ap (λ n. mid ++ replicate n (run_group (get_or words last.word 0))) c.if-last-eq0.true ∙ append-nil mid) in
     subst (λ rest. Extends c.args.out.now.items c.args.run
-        (run ++ rest) c.push_words.new.words.items c.in_ok-run-2.run') end
+    (run ++ rest) c.push_words.new.words.items c.in_ok-run-2.run') end
     (extends_more _ _ _ _ _ _ _ _ (first_run (goal.at.returns-then-last-eq0-clause-extends c).In_ok-run)
     c.in_ok-run-2.ensures.extends)
 
@@ -80,13 +80,13 @@ base_is words run len one long is = omega (arith, length-append words (underway 
 pub returns-then-last-eq0-clause-lies : goal.returns-then-last-eq0-clause-lies
 returns-then-last-eq0-clause-lies c =
     lies_behind c.args.words.now c.args.run c.args.out.now.items c.args.first c.push_run.new.words.items
-        c.in_ok-run.run'
+    c.in_ok-run.run'
     _ (c.args.last.word - (c.args.first.word + 1)) (c.len.result + c.from.result) [] c.requires.first
     (omega (arith, c.requires.order, c.requires.within)) c.requires.first_inside
     (first_run (goal.at.returns-then-last-eq0-clause-lies c).In_ok-run)
     (c.in_ok-run-2.ensures.whole ∙ sym (append-nil _))
     (base_is c.push_run.new.words.items c.in_ok-run.run' c.len.result c.from.result (omega arith) c.from.ensures)
-        (omega arith)
+    (omega arith)
 
 -- the groups of the last run that come before the last place, as a word
 last_part : (c : After-of_word) → IsPart (get_or c.args.words.now c.args.last.word 0) c.args.last.skipped
@@ -114,13 +114,13 @@ returns-clause-extends c =
     let word = get_or words last.word 0 in
     let mid = groups (words_between words (first.word + 1) last.word) in
     let run = replicate (run_count (get_or words first.word 0) - first.skipped)
-        (run_group (get_or words first.word 0)) in
+    (run_group (get_or words first.word 0)) in
     let here = word - (c.of_word.result.count - last.skipped) in
     let part = last_part (goal.at.returns-clause-extends c).After-of_word in
     let end : replicate (run_count here) (run_group here) ≡ replicate last.skipped (run_group word) =
     ap (λ n. replicate n (run_group here)) part.count_is ∙ ap (replicate last.skipped) part.group in
     subst (λ rest. Extends c.args.out.now.items c.args.run
-        (run ++ (mid ++ rest)) c.push_apart.new.words.items c.in_ok-push_apart.field-0) end
+    (run ++ (mid ++ rest)) c.push_apart.new.words.items c.in_ok-push_apart.field-0) end
     (extends_more _ _ _ _ _ _ _ _ (first_run (goal.at.returns-clause-extends c).In_ok-run)
     (extends_more _ _ _ _ _ _ _ _ c.in_ok-run-2.ensures.extends c.in_ok-push_apart.ensures.extends))
 
@@ -128,7 +128,7 @@ pub returns-clause-lies : goal.returns-clause-lies
 returns-clause-lies c =
     let part = get_or c.args.words.now c.args.last.word 0 - (c.of_word.result.count - c.args.last.skipped) in
     lies_behind c.args.words.now c.args.run c.args.out.now.items c.args.first c.push_run.new.words.items
-        c.in_ok-run.run'
+    c.in_ok-run.run'
     _ (c.args.last.word - (c.args.first.word + 1)) (c.len.result + c.from.result) (part ∷ []) c.requires.first
     (omega (arith, c.requires.order, c.requires.within)) c.requires.first_inside
     (first_run (goal.at.returns-clause-lies c).In_ok-run)

@@ -40,7 +40,7 @@ returns-then-is_literal-clause-extends c =
           ∙ append_assoc c.args.words.now.items (underway run ++ front) (last ∷ []);
       writes = subst (λ more. Writes run (groups more) ((underway run ++ front) ++ last ∷ []) 0) (sym (parted w))
           (writes_words run front last (subst AreRuns (parted w) c.requires.runs) (c.if-is_literal.ensures.0 refl)
-              (apart w));
+          (apart w));
       fill = λ none. absurd (omega arith);
     }
 

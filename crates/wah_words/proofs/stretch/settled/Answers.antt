@@ -15,7 +15,7 @@ returns-then-place-of_word-clause-after c = λ before after.
     record {
       rest =
           sym (drop_at run (groups (drop (v + 1) words)) (run_count word)
-              (length-replicate (run_count word) (run_group word)))
+          (length-replicate (run_count word) (run_group word)))
           ∙ ap (drop (run_count word)) (sym (groups-from words v c.if-place-words.true))
           ∙ ap (λ n. drop n (groups (drop v words))) (sym count)
           ∙ after.rest;

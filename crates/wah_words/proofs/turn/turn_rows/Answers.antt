@@ -39,5 +39,5 @@ loop-place-preserved c =
           ∙ page_turned page first place row from (omega (arith, size, to))
           ∙ ap (λ value. differs value (eqb place (first + row))) (c.loop-place.invariant.rows row inside)
           ∙ turned_more (group_row (get_or c.args.page.now (row / 31) 0) (row % 31)) places n
-              (first + row) c.requires.rising (omega arith);
+          (first + row) c.requires.rising (omega arith);
     }

@@ -10,5 +10,5 @@ invariant-loop-place l = record {
   within : All (λ group. group < 2 ^ 31) l.page;
   rows : (row : ℕ) → row < 3968 → group_row (slice_index l.page (row / 31)) (row % 31)
       ≡ differs (group_row (slice_index l.initial.page (row / 31)) (row % 31))
-          (has (take l.place-index l.places) (l.first + row));
+      (has (take l.place-index l.places) (l.first + row));
 }

@@ -1,10 +1,8 @@
-use Rattle.std.proofs.Common.{◌≡◌, ℕ, List, ◌+◌, ◌-◌, ◌*◌, ◌≤◌, ◌++◌, ◌∙◌, drop, get_or, length, take, sym, ap, subst, arith}
+use Rattle.std.proofs.Common.{◌≡◌, ◌+◌, ◌-◌, ◌*◌, ◌++◌, ◌∙◌, drop, length, take, sym, ap, subst, arith}
 use Rattle.std.proofs.lemmas.List.{length-drop, length-take-le}
 use Rattle.wah_words.specs.Group.{group_at}
-use Rattle.wah_words.specs.Word.{groups}
-use Rattle.wah_words.specs.Place.{AreFences, page_count}
+use Rattle.wah_words.specs.Place.{page_count}
 use Rattle.wah_words.specs.Stretch.{AreFencesFrom, pages_from}
-use Rattle.wah_words.specs.declared.place.Place.{Place}
 use Rattle.fence_window.specs.Turned.{IsCopied}
 use Rattle.fence_window.proofs.Fences.{words_from_fits}
 use Rattle.fence_window.proofs.Toggled.{copied_are, fences_part}

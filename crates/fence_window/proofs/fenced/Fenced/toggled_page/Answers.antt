@@ -1,5 +1,5 @@
-use Rattle.std.proofs.Common.{◌≡◌, ℕ, ◌+◌, ◌-◌, ◌*◌, ◌/◌, ◌%◌, ◌<◌, ◌∙◌, false, get_or, length, sym, ap, subst, arith}
-use Rattle.wah_words.specs.Group.{group_at, group_row}
+use Rattle.std.proofs.Common.{◌≡◌, ◌+◌, ◌*◌, ◌/◌, ◌%◌, ◌<◌, ◌∙◌, false, get_or, sym, ap, arith}
+use Rattle.wah_words.specs.Group.{group_row}
 use Rattle.wah_words.specs.Rows.{differs, has}
 use Rattle.fence_window.proofs.fenced.Fenced.toggled_page.Goals as goal
 

@@ -1,8 +1,7 @@
-use Rattle.std.proofs.Common.{◌≡◌, ℕ, ◌+◌, ◌*◌, ◌<◌, ◌≤◌, ◌∙◌, ◌++◌, [], false, get_or, length, take, refl, sym, ap, subst, arith, inl, inr}
-use Rattle.std.specs.Prelude.{All}
+use Rattle.std.proofs.Common.{◌≡◌, ◌+◌, ◌*◌, ◌<◌, ◌∙◌, [], false, get_or, length, take, sym, ap, subst, arith, inl, inr}
 use Rattle.std.proofs.lemmas.Bool.{cases_lt}
 use Rattle.std.proofs.lemmas.List.{get_or_append_left, get_or_past, length-append}
-use Rattle.wah_words.specs.Group.{group_at, group_row, unpacked}
+use Rattle.wah_words.specs.Group.{group_row, unpacked}
 use Rattle.wah_words.specs.Rows.{IsToggled}
 use Rattle.wah_words.specs.Place.{ArePagesOf}
 use Rattle.fence_window.proofs.Toggled.{IsTurnedTo, Laws, turned_all, turned_on}

@@ -62,11 +62,11 @@ invariant_of-self c =
     subst (ArePaged c.copy.new.out.items c.in_ok-base.next)
     (sym (c.in_ok-push_moved.ensures
     ∙ ap (λ front. front ++ map (moved (c.args.first.word + 1) c.in_ok-base.base) c.args.others.now)
-        c.in_ok-push.ensures.items))
+    c.in_ok-push.ensures.items))
     (paged_copied c.self.inside.words.items c.self.inside.run c.self.inside.starts.items c.args.words.now c.args.first
     c.args.last c.args.others.now c.copy.new.out.items c.in_ok-base.next c.in_ok-base.base start.result c.self.invariant
     (copied (goal.at.invariant_of-self c).After-self) c.in_ok-base.ensures.extends c.in_ok-base.ensures.lies
-        (start.ensures.word ∙ ap length c.deref.ensures.value)
+    (start.ensures.word ∙ ap length c.deref.ensures.value)
     start.ensures.skipped)
 
 pub returns : goal.returns

@@ -1,5 +1,4 @@
-use Rattle.std.proofs.Common.{◌≡◌, ◌∙◌, sym, ap, subst, arith, length, take}
-use Rattle.std.specs.Prelude.{IfOk}
+use Rattle.std.proofs.Common.{◌∙◌, sym, ap, subst, arith, length, take}
 use Rattle.wah_words.specs.Group.{unpacked}
 use Rattle.wah_words.specs.Place.{ArePagesOf, SpellPages}
 use Rattle.fence_window.proofs.Pages.{pages_all}
