@@ -212,7 +212,7 @@ turned_all list places rest writer from pages rows laws is end count longer belo
             ap (λ g. group_row g (row % 31)) (get_or_past writer (row / 31) 0 (omega (arith, past)))
             ∙ laws.zero (row % 31) (omega arith)
             ∙ sym (ap (λ value. differs value (has places row))
-                (get_or_past list row false (omega (arith, longer, far)))
+            (get_or_past list row false (omega (arith, longer, far)))
             ∙ ap (differs false) (absent_front list places rows row laws below far))
       ]);
 }
