@@ -37,7 +37,10 @@ enum Call {
 #[derive(Clone, Copy, Debug, PartialEq, Eq)]
 enum Answer {
     Live(Option<(u32, Tuple)>),
-    Placed { at: u32, row: u32 },
+    Placed {
+        at: u32,
+        row: u32,
+    },
     Stopped(OpStop),
     Merged(MergeCount),
     // How many rows, the first and the last of them, and by how many deltas the versions were patched.

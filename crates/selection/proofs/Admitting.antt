@@ -1,37 +1,11 @@
 -- Rows that columns admit.
 use Rattle.std.proofs.Common.{◌≡◌, ◌∙◌, ◌&&◌, Bool, true, false, Option, Some, None, is_none, refl, sym, ap, if◌then◌else◌}
 use Rattle.cubit_base.specs.Tuple.{TupleValue}
-use Rattle.cubit_base.specs.declared.predicate.Range.{Range}
 use Rattle.cubit_base.specs.declared.predicate.Predicate.{Predicate}
-use Rattle.column_bins.specs.Column.{tuple_bin}
-use Rattle.column_bins.specs.Plan.{IsStretch, is_open, may_match}
-use Rattle.column_bins.specs.declared.column.Column.{Column}
+use Rattle.column_bins.specs.Plan.{is_open, may_match}
 use Rattle.column_bins.specs.declared.column.Column.TheVariants.{Ship, Disc, Qty, Flag, Status}
-use Rattle.column_bins.specs.declared.plan_type.Stretch.{Stretch}
 use Rattle.selection.specs.Candidates.{is_candidate_at}
-use Rattle.selection.specs.Scan.{begins_at, has_bin_at, admits_at}
-
-and-true : (a b : Bool) → b ≡ true → a ≡ (a && b)
-and-true true b is = sym is
-and-true false b is = refl
-
-free : (column : Column) (t : Option TupleValue) → admits_at column None t ≡ true
-free column None = refl
-free column (Some t) = refl
-
--- a column without a stretch admits every row
-pub admits-free : (test : Option TupleValue → Bool) (column : Column) (range : Option Range) →
-    IsStretch column range None → (t : Option TupleValue) → test t ≡ (test t && admits_at column range t)
-admits-free test column None is t = and-true (test t) (admits_at column None t) (free column t)
-admits-free test column (Some r) is t = absurd is
-
--- one with a stretch admits the rows that have their bin in it
-pub admits-stretch : (column : Column) (range : Option Range) (stretch : Stretch) →
-    IsStretch column range (Some stretch) → (t : Option TupleValue) →
-    has_bin_at column stretch t ≡ admits_at column range t
-admits-stretch column None stretch is t = absurd cc
-admits-stretch column (Some r) stretch is None = refl
-admits-stretch column (Some r) stretch is (Some t) = is (tuple_bin column t)
+use Rattle.selection.specs.Scan.{begins_at, admits_at}
 
 -- all columns, one after another
 abbrev pub admitted_at : Predicate → Option TupleValue → Bool
