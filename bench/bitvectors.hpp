@@ -76,6 +76,9 @@ public:
         last += count;
     }
 
+    /* Takes the last word away. */
+    void pop_word() { last--; }
+
     /* Room for so many words more, to be written by the caller. */
     uint32_t *push_room(size_t count)
     {
@@ -458,6 +461,45 @@ public:
         pending = after;
     }
 
+    /* Copies pages of another list, from the first on and before another: whole words, and the fences moved with them. */
+    void push_pages(const Fenced &other, uint32_t first, uint32_t after)
+    {
+        if (first >= after)
+            return;
+        const uint32_t *from = other.bitvector.begin();
+        bool is_last = after == other.fences.size();
+        Fenced::Place begin = other.fences[first];
+        Fenced::Place end = is_last ? Fenced::Place{ other.bitvector.size(), 0 } : other.fences[after];
+        if (from[begin.word] >= TRUE_FILL)
+            return push_windows(other, first, after);
+        uint32_t page = first;
+        size_t word = begin.word;
+        if (from[word] >= FALSE_FILL) {
+            /* the pages that begin in the rest of a fill, which joins what is pending */
+            for (; page < after && other.fences[page].word == word; page++)
+                fences.push_back({ words.size(), pending + other.fences[page].skipped - begin.skipped });
+            uint32_t count = end.word == word ? end.skipped : from[word] & COUNT_BITS;
+            pending += count - begin.skipped;
+            if (end.word == word++)
+                return;
+        }
+        flush();
+        size_t moved = words.size() - word;
+        for (; page < after; page++)
+            fences.push_back({ other.fences[page].word + moved, other.fences[page].skipped });
+        words.push_words(from + word, end.word - word);
+        if (end.skipped != 0 && from[end.word] >= TRUE_FILL) {
+            words.push_run({ ALL_TRUE, end.skipped });
+        } else if (end.skipped != 0) {
+            pending = end.skipped;
+        } else if (end.word > word && from[end.word - 1] >= FALSE_FILL && from[end.word - 1] < TRUE_FILL) {
+            pending = from[end.word - 1] & COUNT_BITS;
+            words.pop_word();
+        }
+        if (is_last)
+            pending += uint32_t(other.fences.size()) * PAGE_GROUPS - groups_for(other.bitvector.rows);
+    }
+
     /* Pads the last page, whose groups past the last row are false, by no word. */
     Fenced finish()
     {
@@ -480,6 +522,15 @@ private:
         pending = 0;
     }
 
+    void push_windows(const Fenced &other, uint32_t first, uint32_t after)
+    {
+        Page page;
+        for (; first < after; first++) {
+            other.window(first, page);
+            push_page(page);
+        }
+    }
+
     void push_page_with_true(const Page &page)
     {
         /* a page that begins within a fill of true rows stands in it */
@@ -495,3 +546,24 @@ private:
         }
     }
 };
+
+/* The list with the rows at these places turned, which rise. Pages in which none is turned are copied. */
+static inline Fenced toggled(const Fenced &list, const std::vector<uint32_t> &places)
+{
+    PageBuilder builder(list.bitvector.rows);
+    uint32_t from = 0;
+    for (size_t i = 0; i < places.size();) {
+        uint32_t number = places[i] / PAGE_ROWS;
+        builder.push_pages(list, from, number);
+        Page page;
+        list.window(number, page);
+        for (; i < places.size() && places[i] / PAGE_ROWS == number; i++) {
+            uint32_t row = places[i] % PAGE_ROWS;
+            page[row / GROUP_ROWS] ^= 1u << row % GROUP_ROWS;
+        }
+        builder.push_page(page);
+        from = number + 1;
+    }
+    builder.push_pages(list, from, pages_for(list.bitvector.rows));
+    return builder.finish();
+}
