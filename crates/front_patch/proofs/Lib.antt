@@ -6,6 +6,7 @@ mod Least
 mod Pages
 mod Patching
 mod Rising
+mod Counts
 mod Runs
 mod Sees
 mod Setting

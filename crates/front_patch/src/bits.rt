@@ -1,12 +1,13 @@
 //! Rows set in groups.
-ghost use Rattle.std.specs.Prelude.{◌≡◌, ◌+◌, ◌*◌, ◌^◌, ◌==◌, ◌<◌, ◌≤◌, ◌||◌, ℕ, false, List, All, length, slice_index_or, if◌then◌else◌};
+ghost use Rattle.std.specs.Prelude.{◌≡◌, ◌+◌, ◌*◌, ◌/◌, ◌^◌, ◌==◌, ◌<◌, ◌≤◌, ◌||◌, ℕ, false, List, All, length, slice_index_or, if◌then◌else◌};
 ghost use Rattle.wah_words.specs.Group.{group_row};
 ghost use Rattle.front_patch.specs.Bits.{row_in, shown_by};
 ghost use Rattle.front_patch.specs.RowStates.{IsRising, last_state};
 ghost use Rattle.front_patch.specs.Changed.{AreStates, ShowOthers, ShowRows};
 ghost use Rattle.cubit_base.specs.Table.{Row};
 
-use crate::row_state::{RowState, states_among};
+use crate::changed::ChangedRows;
+use crate::row_state::RowState;
 use crate::row_test::RowTest;
 use fence_window::{BLOCK_GROUPS, Fenced, PAGE_GROUPS, PAGE_ROWS, Plain};
 use wah_words::laws;
@@ -36,8 +37,8 @@ fn set_row(groups: &mut [u32], row: usize, value: bool)
 }
 
 /// Gives the rows that were changed what the test says of their states; the groups begin with those of a page.
-pub(crate) fn set_changed(changed: &[RowState], test: RowTest, page: u32, groups: &mut [u32])
-    requires rising { IsRising changed.now }
+pub(crate) fn set_changed(changed: &ChangedRows, test: RowTest, page: u32, groups: &mut [u32])
+    requires whole { length groups.old ≡ 128 * (length groups.old / 128) }
     requires few { length groups.old ≤ 4_096 }
     requires groups { All (λ group. group < 2 ^ 31) groups.old }
     ensures { (table : List Row) → ShowOthers test changed.now table page groups.old → AreStates changed.now table →
@@ -46,7 +47,7 @@ pub(crate) fn set_changed(changed: &[RowState], test: RowTest, page: u32, groups
     laws::groups();
     let first = first_row(page);
     let rows = 31 * groups.len() as u64;
-    set_states(groups, first, test, states_among(changed, first, rows));
+    set_states(groups, first, test, changed.among(first, rows));
 }
 
 /// The first row of a page.

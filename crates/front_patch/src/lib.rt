@@ -39,6 +39,7 @@
 #![tactic(auto)]
 
 mod bits;
+mod changed;
 mod claims;
 pub mod laws;
 mod page;

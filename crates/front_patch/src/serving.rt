@@ -16,10 +16,10 @@ ghost use Rattle.front_patch.specs.Taken.{IsTakenOver, table_at};
 ghost use Rattle.front_patch.specs.declared.row_test.RowTest.TheVariants.{IsInBins};
 
 use crate::bits::{or_pages, or_plain};
+use crate::changed::ChangedRows;
 use crate::claims::{content_by, shows_base};
 use crate::patches::{base_serves, contents_since};
 use crate::planned::{page_place, place_in};
-use crate::row_state::RowState;
 use crate::taken::Taken;
 use column_bins::Column;
 use fence_window::{BLOCK_GROUPS, Fenced, Plain};
@@ -28,7 +28,7 @@ use version_store::VersionStore;
 
 impl<S: VersionStore> Taken<S> {
     /// The last states of the rows that were changed since the oldest version.
-    pub(crate) fn changed(&self) -> &[RowState]
+    pub(crate) fn changed(&self) -> &ChangedRows
         ensures { IsPatch S.Log.terms self.now.seen self.now.front self.now.least self.now.plan self.now.pages
             result.now }
     {

@@ -12,11 +12,11 @@ ghost use Rattle.front_patch.specs.Patch.{IsPatch};
 ghost use Rattle.front_patch.specs.Taken.{IsTakenOver, AreGiven, table_at, patched_by, claim_count, fallback_count};
 
 use crate::bits::{first_row, set_changed, show_none, show_page};
+use crate::changed::ChangedRows;
 use crate::claims::{count_fallbacks, leave_each};
 use crate::page::{PageAtFront, marks_of};
 use crate::patches::changed_rows;
 use crate::planned::test_of;
-use crate::row_state::{RowState, states_among};
 use crate::row_test::RowTest;
 use crate::taking::Patch;
 use column_bins::{Column, Plan, Stretch};
@@ -41,7 +41,7 @@ pub struct Taken<S: VersionStore> {
     pub(crate) pages: u32,
     pub(crate) units: Vec<Unit>,
     pub(crate) claims: Vec<Option<S::Claim>>,
-    pub(crate) changed: Vec<RowState>,
+    pub(crate) changed: ChangedRows,
 }
 
 impl<S: VersionStore> Model for Taken<S> {
@@ -62,7 +62,7 @@ impl<S: VersionStore> Model for Taken<S> {
     } };
 
     ghost invariant = { λ t.
-        IsPatch S.Log.terms (S.Log.handle t.log.value).seen t.front t.least t.plan t.pages t.changed.items
+        IsPatch S.Log.terms (S.Log.handle t.log.value).seen t.front t.least t.plan t.pages t.changed
         × (t.units.items ≡ units_of t.plan t.pages) × (length t.claims.items ≡ length t.units.items)
         × (t.fallbacks ≡ fallback_count t.claims.items) };
 }
@@ -77,7 +77,7 @@ pub(crate) fn taken_of<S: VersionStore>(
     patch: Patch,
 ) -> Taken<S>
     requires patch { IsPatch S.Log.terms (S.Log.handle log.now).seen patch.front patch.least plan.now pages
-        patch.changed.items }
+        patch.changed }
     requires units { units.items ≡ units_of plan.now pages }
     requires claims { length claims.items ≡ length units.items }
     requires few { length claims.items ≤ 65_536 }
@@ -187,7 +187,7 @@ impl<S: VersionStore> Taken<S> {
         laws::tuples();
         let first = first_row(page);
         let held = self.held_page(store, base, page);
-        let changed = states_among(self.changed(), first, u64::from(PAGE_ROWS));
+        let changed = self.changed().among(first, u64::from(PAGE_ROWS));
         PageAtFront {
             page: held,
             first,

@@ -10,10 +10,11 @@ ghost use Rattle.front_patch.specs.RowStates.{AreLast, state_after};
 ghost use Rattle.front_patch.specs.Taken.{AreGiven};
 ghost use Rattle.front_patch.specs.Takes.{Takings, SeesOnly, KeepsVersions, take_steps, pages_of, least_length, with_walks};
 
+use crate::changed::ChangedRows;
 use crate::claims::{hold_each, leave_each, oldest};
 use crate::patches::rows_rise;
 use crate::planned::planned_units;
-use crate::row_state::{RowState, last_states};
+use crate::row_state::last_states;
 use crate::taken::{Taken, taken_of};
 use crate::walk::states_between;
 use column_bins::Plan;
@@ -109,7 +110,7 @@ fn hold_planned<S: VersionStore, N: Ledger>(
 pub(crate) struct Patch {
     pub(crate) front: Front,
     pub(crate) least: u32,
-    pub(crate) changed: Vec<RowState>,
+    pub(crate) changed: ChangedRows,
 }
 
 // Takes a front, and walks to it from the shortest of a first front and what the claims show.
@@ -133,14 +134,14 @@ fn patch_since<S: VersionStore, N: Ledger>(
         p.least ≡ least_length first.len (map (option_map (S.shown store.now)) claims.now)) }
     ensures order { IfOk result (λ p. p.least ≤ p.front.len) }
     ensures last { IfOk result (λ p.
-        AreLast (map state_after (between p.least p.front.len (S.Log.handle log.new).seen)) p.changed.items) }
+        AreLast (map state_after (between p.least p.front.len (S.Log.handle log.new).seen)) p.changed) }
     ensures steps { IfOk result (λ p. steps.new ≡ steps.old + 3 + 5 * (p.front.len - p.least)) }
 {
     laws::prefixes();
     let from = oldest(log, store, claims, first);
     let front = log.front(steps);
     let states = states_between(alloc, log, &from, &front, steps)?;
-    let changed = last_states(alloc, &states)?;
+    let changed = ChangedRows::of(alloc, last_states(alloc, &states)?)?;
     Ok(Patch {
         front,
         least: from.len,

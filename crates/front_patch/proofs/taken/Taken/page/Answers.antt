@@ -18,9 +18,9 @@ returns g c at low =
     c.tuples.ensures.each
     c.held_page-held.ensures.some c.held_page-held.ensures.none (patch.paged c.requires.pages)
     (omega (arith, patch.within, patch.whole.whole)) low in
-    ap (λ tuple. unwrap_or (last_state (c.first_row-first.result + at) c.states_among-changed.result.now) tuple) held.3
+    ap (λ tuple. unwrap_or (last_state (c.first_row-first.result + at) c.among-changed.result.now) tuple) held.3
     ∙ ap (λ state. unwrap_or state (tuple_at (after terms.base (take held.0 now.seen)) row))
-    (ap (λ n. last_state (n + at) c.states_among-changed.result.now) first
-    ∙ c.states_among-changed.ensures.same row (omega (arith, first)) (omega (arith, first, c.from.ensures, low)))
+    (ap (λ n. last_state (n + at) c.among-changed.result.now) first
+    ∙ c.among-changed.ensures.same row (omega (arith, first)) (omega (arith, first, c.from.ensures, low)))
     ∙ sym (c.changed_rows.ensures terms now.seen now.front now.least now.plan now.pages changed held.0 patch held.1
     held.2 row)
