@@ -1,3 +1,4 @@
 mod ages;
 mod compared;
+mod memory;
 mod plain;

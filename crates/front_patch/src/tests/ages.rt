@@ -30,7 +30,7 @@ use unit_version::{Base, Content, Unit, patched};
 use version_store::{LosingStore, MemoryStore, VersionStore};
 use wah_words::Wah;
 
-const LIMIT: u32 = 9_100;
+pub(crate) const LIMIT: u32 = 9_100;
 
 // One drawn delta more, where one may come there.
 fn grow<L: CommitLog, N: Ledger, R: Abort + AllocGlobal>(
@@ -219,7 +219,7 @@ fn replace_page_of<S: Setup, N: Ledger, R: Abort + AllocGlobal>(
 }
 
 // So many drawn deltas more.
-fn grow_by<S: Setup, N: Ledger, R: Abort + AllocGlobal>(
+pub(crate) fn grow_by<S: Setup, N: Ledger, R: Abort + AllocGlobal>(
     rt: &R,
     log: &mut SerialLog<S>,
     front: Front,
@@ -272,7 +272,7 @@ const AGES: [(Column, Stretch); 5] = [
     (Column::Flag, Stretch { first: 0, after: 2 }),
 ];
 
-fn plan_of(ship: Option<Stretch>, disc: Option<Stretch>, qty: Option<Stretch>, pages: bool) -> Plan
+pub(crate) fn plan_of(ship: Option<Stretch>, disc: Option<Stretch>, qty: Option<Stretch>, pages: bool) -> Plan
     requires ship { IfSome ship (λ s. s.after ≤ 84) }
     requires disc { IfSome disc (λ s. s.after ≤ 11) }
     requires qty { IfSome qty (λ s. s.after ≤ 50) }
@@ -288,7 +288,7 @@ fn plan_of(ship: Option<Stretch>, disc: Option<Stretch>, qty: Option<Stretch>, p
     }
 }
 
-fn some(first: u8, after: u8) -> Option<Stretch>
+pub(crate) fn some(first: u8, after: u8) -> Option<Stretch>
     ensures { result ≡ Some (record { first = first; after = after }) }
 {
     Some(Stretch { first, after })

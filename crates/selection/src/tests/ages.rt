@@ -218,7 +218,7 @@ fn cases_agree<S: VersionStore, N: Ledger, M: Ledger, R: Abort + AllocGlobal>(
         assert_eq!(rt; told.front, last);
         if !loses {
             let patched = last.wrapping_sub(*least);
-            assert_eq!(rt; told.patched, (patched, last), "{predicate:?}");
+            assert_eq!(rt; told.patched, (patched, patched, last), "{predicate:?}");
         }
     }
     Ok(())

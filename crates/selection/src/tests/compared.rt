@@ -16,8 +16,8 @@ pub(crate) struct Told {
     pub(crate) front: u32,
     pub(crate) count: u32,
     pub(crate) sum: u64,
-    // By how many deltas the versions for the rows, and those for the sum, were patched.
-    pub(crate) patched: (u32, u32),
+    // By how many deltas the versions for the rows, for the count and for the sum were patched.
+    pub(crate) patched: (u32, u32, u32),
 }
 
 // Whether a list has the numbers of the table's rows that match.
@@ -65,6 +65,6 @@ pub(crate) fn agrees<S: VersionStore, N: Ledger, M: Ledger, R: Abort + AllocGlob
         front: summed.front.len,
         count: counted.count,
         sum: summed.sum,
-        patched: (listed.patched, summed.patched),
+        patched: (listed.patched, counted.patched, summed.patched),
     })
 }

@@ -3,16 +3,17 @@ ghost use Rattle.std.specs.Prelude.{◌≡◌, ◌+◌, ◌<◌, ◌≤◌, [], 
 ghost use Rattle.cubit_base.specs.Delta.{IsLawful};
 ghost use Rattle.cubit_base.specs.History.{after};
 ghost use Rattle.cubit_base.specs.LiveRow.{HasDistinctLiveKeys};
+ghost use Rattle.column_bins.specs.Column.{bin_count};
 ghost use Rattle.commit_log.specs.Log.{IsWhole};
 ghost use Rattle.commit_log.specs.Handle.{Grows};
 ghost use Rattle.version_store.specs.Store.{IsStanding};
 
 use super::compared::{Told, agrees};
-use super::moves::append;
+use super::moves::{append, replace_bins};
 use super::plain::{change, copy_of, insertion, table_of};
 use crate::{Memory, count};
-use column_bins::plan;
-use commit_log::{CommitLog, SerialLog, Setup};
+use column_bins::{Column, Stretch, plan};
+use commit_log::{CommitLog, Front, SerialLog, Setup};
 use cubit_base::{Delta, Flag, Limits, LineStatus, Predicate, Range, Steps, Table, Tuple};
 use std::marker::Brand;
 use std::process::Abort;
@@ -41,17 +42,19 @@ fn delta_of(step: &Move, table: &Table, author: u8) -> Option<Delta>
     }
 }
 
-// Makes the changes, one after another: the table in the end.
+// Makes the changes, one after another: the front and the table in the end.
 fn moved<L: CommitLog, N: Ledger, R: Abort + AllocGlobal>(
     rt: &R,
     log: &mut L,
     table: Table,
     moves: &[Move],
     steps: &mut Steps<N>,
-) -> Result<Table, Memory>
+) -> Result<(Front, Table), Memory>
     requires limit { L.terms.limits.row_limit ≡ LIMIT }
     requires new { (L.handle log.old).seen ≡ [] }
     requires table { table ≡ L.terms.base }
+    ensures whole { IfOk result (λ r. IsWhole L.terms (L.handle log.new).seen r.0) }
+    ensures table { IfOk result (λ r. r.1 ≡ after L.terms.base (L.handle log.new).seen) }
     ensures grows { Grows (L.handle log.old) (L.handle log.new) }
 {
     commit_log::laws::handles();
@@ -61,7 +64,7 @@ fn moved<L: CommitLog, N: Ledger, R: Abort + AllocGlobal>(
         let delta = delta_of(step, &now, log.author());
         (at, now) = append(rt, log, at, now, delta, steps)?;
     }
-    Ok(now)
+    Ok((at, now))
 }
 
 // A count over whole months, which reads no tuple, and whether its months are whole.
@@ -106,6 +109,7 @@ fn asks<S: VersionStore, N: Ledger, M: Ledger, R: Abort + AllocGlobal>(
     Ok(())
 }
 
+// Changes, versions of these bins behind them, and queries.
 fn session<S: VersionStore, N: Ledger, M: Ledger, R: Abort + AllocGlobal>(
     rt: &R,
     log: &mut S::Log,
@@ -113,16 +117,19 @@ fn session<S: VersionStore, N: Ledger, M: Ledger, R: Abort + AllocGlobal>(
     base: &Base,
     table: Table,
     moves: &[Move],
+    bins: (Column, Stretch),
     cases: &[(Predicate, Told)],
     steps: &mut Steps<N>,
     reads: &mut Steps<M>,
 ) -> Result<(), Memory>
     requires limit { S.Log.terms.limits.row_limit ≡ LIMIT }
+    requires bins { bins.1.after ≤ bin_count bins.0 }
     requires standing { IsStanding S.Log.terms (S.store store.old) base.now (S.over store.old log.old) }
     requires new { (S.Log.handle log.old).seen ≡ [] }
     requires table { table ≡ S.Log.terms.base }
 {
-    let now = moved(rt, log, table, moves, steps)?;
+    let (at, now) = moved(rt, log, table, moves, steps)?;
+    replace_bins(rt, log, store, base, bins, &at, &now, steps)?;
     asks(rt, log, store, base, &now, cases, steps, reads)
 }
 
@@ -133,8 +140,10 @@ fn over<S: Setup, N: Ledger, M: Ledger, R: Abort + AllocGlobal>(
     tables: (Table, Table),
     lost: &[u32],
     moves: &[Move],
+    bins: (Column, Stretch),
     cases: &[(Predicate, Told)],
 ) -> Result<(), Memory>
+    requires bins { bins.1.after ≤ bin_count bins.0 }
     requires name { blanks.0.name ≡ N.name }
     requires parts { blanks.0.parts ≡ N.parts }
     requires some { 0 < N.parts }
@@ -162,18 +171,36 @@ fn over<S: Setup, N: Ledger, M: Ledger, R: Abort + AllocGlobal>(
     if lost.is_empty() {
         let mut store = MemoryStore::make(alloc, &base, &mut log)?;
         session(
-            rt, &mut log, &mut store, &base, table, moves, cases, &mut steps, &mut reads,
+            rt, &mut log, &mut store, &base, table, moves, bins, cases, &mut steps, &mut reads,
         )
     } else {
         let lost = Vec::from_slice(alloc, lost)?;
         let mut store = LosingStore::make(alloc, &base, &mut log, lost)?;
         session(
-            rt, &mut log, &mut store, &base, table, moves, cases, &mut steps, &mut reads,
+            rt, &mut log, &mut store, &base, table, moves, bins, cases, &mut steps, &mut reads,
         )
     }
 }
 
 // A session over these tuples.
+fn check_replaced<R: Abort + AllocGlobal>(
+    rt: &R,
+    tuples: &[Option<Tuple>],
+    lost: &[u32],
+    moves: &[Move],
+    bins: (Column, Stretch),
+    cases: &[(Predicate, Told)],
+) -> Result<(), Memory>
+    requires tuples { length tuples.now ≤ LIMIT }
+    requires bins { bins.1.after ≤ bin_count bins.0 }
+{
+    let table = table_of(rt.alloc(), tuples)?;
+    let same = copy_of(rt.alloc(), &table)?;
+    let blanks = (Blank::new(1), Blank::new(1));
+    over::<Brand, Brand, Brand, R>(rt, blanks, (table, same), lost, moves, bins, cases)
+}
+
+// The same with the base's versions.
 fn check<R: Abort + AllocGlobal>(
     rt: &R,
     tuples: &[Option<Tuple>],
@@ -183,10 +210,8 @@ fn check<R: Abort + AllocGlobal>(
 ) -> Result<(), Memory>
     requires { length tuples.now ≤ LIMIT }
 {
-    let table = table_of(rt.alloc(), tuples)?;
-    let same = copy_of(rt.alloc(), &table)?;
-    let blanks = (Blank::new(1), Blank::new(1));
-    over::<Brand, Brand, Brand, R>(rt, blanks, (table, same), lost, moves, cases)
+    let none = Stretch { first: 0, after: 0 };
+    check_replaced(rt, tuples, lost, moves, (Column::Qty, none), cases)
 }
 
 fn tuple(price: u32, day: u16, qty: u8, disc: u8) -> Tuple
@@ -239,12 +264,13 @@ fn pieces(lo: u16, hi: u16) -> Predicate {
     }
 }
 
+// What the queries tell; the versions for the rows and for the count are patched alike.
 fn told(front: u32, count: u32, sum: u64, patched: (u32, u32)) -> Told {
     Told {
         front,
         count,
         sum,
-        patched,
+        patched: (patched.0, patched.0, patched.1),
     }
 }
 
@@ -302,6 +328,26 @@ fn changes_are_seen<R: Abort + AllocGlobal>(rt: &R, lost: &[u32]) -> Result<(), 
 fn own_changes_are_seen(rt: HostRuntime) -> Result<(), Fail> {
     changes_are_seen(&rt, &[])?;
     changes_are_seen(&rt, &[1, 3])?;
+    Ok(())
+}
+
+// A version at the newest front is not patched, and the base's content is where its hold is lost.
+#[test]
+fn newest_versions_are_not_patched(rt: HostRuntime) -> Result<(), Fail> {
+    let tuples = three_tuples();
+    let bins = (Column::Qty, Stretch { first: 6, after: 7 });
+    for (lost, patched) in [
+        (&[][..], (0, 0, 1)),
+        (&[1][..], (1, 0, 1)),
+        (&[2][..], (0, 1, 1)),
+    ] {
+        let expected = Told {
+            patched,
+            ..told(1, 1, 8_467_292, (0, 1))
+        };
+        let case = (pieces(7, 7), expected);
+        check_replaced(&rt, &tuples, lost, &[recount(7)], bins, &[case])?;
+    }
     Ok(())
 }
 
