@@ -52,7 +52,8 @@ module _ (states : List RowState) (rising : IsRising states) (at : ℕ) (within 
         (counted-here p new (omega (arith, below, long, new)))) (cases_lt p (length counts)),
     λ k d below.
         ⊎_elim (λ before. omega (arith, are.1 k d before, long))
-        (λ here. omega (arith, ap (λ n. (get_or states n d).row) (k-at k below here), row-at d, to, long)) (cases_lt k at),
+        (λ here. omega (arith, ap (λ n. (get_or states n d).row) (k-at k below here), row-at d, to, long))
+        (cases_lt k at),
   ) where
     k-at : (k : ℕ) → k < at + 1 → at ≤ k → k ≡ at
     k-at k below here = omega (arith, below, here)

@@ -272,7 +272,12 @@ const AGES: [(Column, Stretch); 5] = [
     (Column::Flag, Stretch { first: 0, after: 2 }),
 ];
 
-pub(crate) fn plan_of(ship: Option<Stretch>, disc: Option<Stretch>, qty: Option<Stretch>, pages: bool) -> Plan
+pub(crate) fn plan_of(
+    ship: Option<Stretch>,
+    disc: Option<Stretch>,
+    qty: Option<Stretch>,
+    pages: bool,
+) -> Plan
     requires ship { IfSome ship (λ s. s.after ≤ 84) }
     requires disc { IfSome disc (λ s. s.after ≤ 11) }
     requires qty { IfSome qty (λ s. s.after ≤ 50) }
