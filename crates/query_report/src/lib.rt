@@ -28,12 +28,15 @@
 #![tactic(auto)]
 
 mod answer;
+mod piece;
+mod reply;
 mod decimal;
 mod refusal;
 mod stop;
 
 pub use answer::answer_line;
 pub use decimal::decimal4;
+pub use reply::{DropLine, Reply};
 pub use refusal::{Detail, Refusal};
 pub use std::alloc::AllocError as Memory;
 pub use stop::Stop;
