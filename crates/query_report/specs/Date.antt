@@ -27,5 +27,5 @@ abbrev pub ymd_text : DateValue → List ℕ
 ymd_text d = four_digits d.year ++ 45 ∷ two_digits d.month ++ 45 ∷ two_digits d.day
 
 -- the date of a day that is counted from 1 January 1992
-abbrev pub date_text : ℕ → List ℕ
+unfoldable pub date_text : ℕ → List ℕ
 date_text n = ymd_text (date_at n)

@@ -31,11 +31,13 @@ mod answer;
 mod piece;
 mod reply;
 mod decimal;
+mod journal;
 mod refusal;
 mod stop;
 
 pub use answer::answer_line;
 pub use decimal::decimal4;
+pub use journal::journal_text;
 pub use reply::{DropLine, Reply};
 pub use refusal::{Detail, Refusal};
 pub use std::alloc::AllocError as Memory;

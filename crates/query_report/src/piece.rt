@@ -2,8 +2,8 @@
 ghost use Rattle.std.specs.Prelude.{◌≡◌, ◌+◌, ◌<◌, ◌≤◌, ◌∷◌, ◌++◌, decimal, OnOk};
 ghost use Rattle.query_report.specs.Date.{date_text, ymd_text};
 ghost use Rattle.query_report.specs.Decimal.{decimal4_text, four_digits};
-ghost use Rattle.query_report.specs.Field.{field, two_digits, decimal2_text, flag_letter, status_letter};
-ghost use Rattle.query_report.specs.TupleText.{held_text, tuple_text};
+ghost use Rattle.query_report.specs.Field.{field, flag_letter, status_letter};
+ghost use Rattle.query_report.specs.TupleText.{amounts_text, hundredths_text, letters_text, held_text, tuple_text};
 
 use crate::Memory;
 use crate::decimal::{digit, fraction};
@@ -44,25 +44,52 @@ pub(crate) fn put_held(text: &mut Vec<u8>, held: Option<Tuple>) -> Result<(), Me
 pub(crate) fn put_tuple(text: &mut Vec<u8>, tuple: &Tuple) -> Result<(), Memory>
     ensures { OnOk result (text.new.items ≡ text.old.items ++ tuple_text tuple.now) }
 {
-    put_field(text, b"", u32::from(tuple.qty))?;
+    put_amounts(text, tuple)?;
+    text.extend_from_slice(&letters(tuple))?;
+    text.extend_from_slice(&date_digits(tuple.day))?;
+    Ok(())
+}
+
+#[tactic(auto, unfolding(crate::specs::TupleText::amounts_text))]
+fn put_amounts(text: &mut Vec<u8>, tuple: &Tuple) -> Result<(), Memory>
+    ensures { OnOk result (text.new.items ≡ text.old.items ++ amounts_text tuple.now) }
+{
+    put_number(text, tuple.qty)?;
     put_hundredths(text, tuple.price)?;
     put_hundredths(text, u32::from(tuple.disc))?;
     put_hundredths(text, u32::from(tuple.tax))?;
-    text.extend_from_slice(&[b'|', letter_of(tuple.flag), b'|', status_letter_of(tuple.status), b'|'])?;
-    text.extend_from_slice(&date_digits(tuple.day))
+    Ok(())
+}
+
+#[inline(always)]
+fn put_number(text: &mut Vec<u8>, number: u8) -> Result<(), Memory>
+    ensures { OnOk result (text.new.items ≡ text.old.items ++ decimal number) }
+{
+    let mut buffer = Buffer::new();
+    text.extend_from_slice(buffer.format(number).as_bytes())
 }
 
 // A bar, and hundredths with two decimals.
 #[inline(always)]
 fn put_hundredths(text: &mut Vec<u8>, number: u32) -> Result<(), Memory>
-    ensures { OnOk result (text.new.items ≡ text.old.items ++ 124 ∷ decimal2_text number) }
+    ensures { OnOk result (text.new.items ≡ text.old.items ++ hundredths_text number) }
 {
     put_field(text, b"|", number / 100)?;
     let part = (number % 100) as u16;
     text.extend_from_slice(&[b'.', digit(part / 10), digit(part % 10)])
 }
 
-fn letter_of(flag: Flag) -> u8
+// The flag and the status between bars.
+#[tactic(auto, unfolding(crate::specs::TupleText::letters_text))]
+fn letters(tuple: &Tuple) -> [u8; 5]
+    ensures { result ≡ letters_text tuple.now }
+{
+    let flag = flag_letter(tuple.flag);
+    let status = status_letter(tuple.status);
+    [b'|', flag, b'|', status, b'|']
+}
+
+fn flag_letter(flag: Flag) -> u8
     ensures { result ≡ flag_letter flag }
 {
     match flag {
@@ -72,7 +99,7 @@ fn letter_of(flag: Flag) -> u8
     }
 }
 
-fn status_letter_of(status: LineStatus) -> u8
+fn status_letter(status: LineStatus) -> u8
     ensures { result ≡ status_letter status }
 {
     match status {
