@@ -9,6 +9,10 @@ use Rattle.cubit_base.specs.declared.tuple.LineStatus.TheVariants.{F, O}
 abbrev pub field : List ℕ → ℕ → List ℕ
 field label n = label ++ decimal n
 
+-- one field behind another
+abbrev pub two_fields : List ℕ → ℕ → List ℕ → ℕ → List ℕ
+two_fields label n next m = field label n ++ field next m
+
 -- the last two digits of a number, leading zeros among them
 abbrev pub two_digits : ℕ → List ℕ
 two_digits n = (48 + n / 10 % 10) ∷ (48 + n % 10) ∷ []

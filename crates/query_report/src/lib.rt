@@ -38,7 +38,7 @@ mod stop;
 pub use answer::answer_line;
 pub use decimal::decimal4;
 pub use journal::journal_text;
-pub use reply::{DropLine, Reply};
+pub use reply::{DropLine, Reply, reply_text};
 pub use refusal::{Detail, Refusal};
 pub use std::alloc::AllocError as Memory;
 pub use stop::Stop;
