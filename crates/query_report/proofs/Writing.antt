@@ -11,3 +11,10 @@ writes_more old new piece rest left whole wrote cut keeps =
 -- nothing is left
 pub writes_all : (old left whole : List ℕ) → left ≡ [] → old ++ left ≡ whole → old ≡ whole
 writes_all old left whole nothing keeps = sym (append-nil old) ∙ ap (λ text. old ++ text) (sym nothing) ∙ keeps
+
+-- three pieces one behind another
+pub writes_three : (old a b c first second third : List ℕ) → first ≡ old ++ a → second ≡ first ++ b
+    → third ≡ second ++ c → third ≡ old ++ (a ++ (b ++ c))
+writes_three old a b c first second third one two three =
+    three ∙ ap (λ text. text ++ c) (two ∙ ap (λ text. text ++ b) one ∙ append_assoc old a b)
+    ∙ append_assoc old (a ++ b) c ∙ ap (λ text. old ++ text) (append_assoc a b c)

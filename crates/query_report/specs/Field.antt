@@ -6,11 +6,11 @@ use Rattle.cubit_base.specs.declared.tuple.LineStatus.{LineStatus}
 use Rattle.cubit_base.specs.declared.tuple.LineStatus.TheVariants.{F, O}
 
 -- a label, and a number without leading zeros
-abbrev pub field : List ℕ → ℕ → List ℕ
+unfoldable pub field : List ℕ → ℕ → List ℕ
 field label n = label ++ decimal n
 
 -- one field behind another
-abbrev pub two_fields : List ℕ → ℕ → List ℕ → ℕ → List ℕ
+unfoldable pub two_fields : List ℕ → ℕ → List ℕ → ℕ → List ℕ
 two_fields label n next m = field label n ++ field next m
 
 -- the last two digits of a number, leading zeros among them

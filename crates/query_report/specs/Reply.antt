@@ -39,15 +39,15 @@ more_text [] = []
 more_text (row ∷ rows) = field (codes ",") row ++ more_text rows
 
 -- numbers with commas between them, and a hyphen for none
-abbrev pub list_text : List ℕ → List ℕ
-list_text [] = codes "-"
-list_text (row ∷ rows) = decimal row ++ more_text rows
+unfoldable pub list_text : List ℕ → List ℕ
+list_text [] = codes " list=-"
+list_text (row ∷ rows) = field (codes " list=") row ++ more_text rows
 
 -- the front's length, how many rows match, these rows, and how many deltas were looked at
 abbrev pub rows_reply : ℕ → List ℕ → ℕ → List ℕ
 rows_reply front list patched =
     two_fields (codes "rows front=") front (codes " count=") (length list)
-    ++ (codes " list=" ++ (list_text list ++ field (codes " patched=") patched))
+    ++ (list_text list ++ field (codes " patched=") patched)
 
 abbrev pub found_text : ℕ → ℕ → TupleValue → List ℕ
 found_text front row tuple =

@@ -3,7 +3,7 @@ ghost use Rattle.std.specs.Prelude.{◌≡◌, ◌+◌, ◌<◌, ◌^◌, ◌++�
 ghost use Rattle.query_report.specs.Journal.{place_text, delta_line, delta_lines, journal_bytes};
 
 use crate::Memory;
-use crate::piece::{put_field, put_held};
+use crate::piece::{put_field, put_held, put_number};
 use cubit_base::{Delta, DeltaList};
 use std::alloc::Global;
 
@@ -57,7 +57,7 @@ fn put_delta(text: &mut Vec<u8>, place: u32, delta: &Delta) -> Result<(), Memory
 fn put_place(text: &mut Vec<u8>, place: u32, delta: &Delta) -> Result<(), Memory>
     ensures { OnOk result (text.new.items ≡ text.old.items ++ place_text place delta.now) }
 {
-    put_field(text, b"", place)?;
+    put_number(text, place)?;
     put_field(text, b" w", u32::from(delta.author))?;
     put_field(text, b" ", delta.key.order)?;
     put_field(text, b".", u32::from(delta.key.line))?;

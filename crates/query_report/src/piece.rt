@@ -12,6 +12,7 @@ use itoa::Buffer;
 
 /// A label and a number.
 #[inline(always)]
+#[tactic(auto, unfolding(crate::specs::Field::field))]
 pub(crate) fn put_field(text: &mut Vec<u8>, label: &[u8], number: u32) -> Result<(), Memory>
     ensures { OnOk result (text.new.items ≡ text.old.items ++ field label.now number) }
 {
@@ -54,15 +55,16 @@ pub(crate) fn put_tuple(text: &mut Vec<u8>, tuple: &Tuple) -> Result<(), Memory>
 fn put_amounts(text: &mut Vec<u8>, tuple: &Tuple) -> Result<(), Memory>
     ensures { OnOk result (text.new.items ≡ text.old.items ++ amounts_text tuple.now) }
 {
-    put_number(text, tuple.qty)?;
+    put_number(text, u32::from(tuple.qty))?;
     put_hundredths(text, tuple.price)?;
     put_hundredths(text, u32::from(tuple.disc))?;
     put_hundredths(text, u32::from(tuple.tax))?;
     Ok(())
 }
 
+/// A number.
 #[inline(always)]
-fn put_number(text: &mut Vec<u8>, number: u8) -> Result<(), Memory>
+pub(crate) fn put_number(text: &mut Vec<u8>, number: u32) -> Result<(), Memory>
     ensures { OnOk result (text.new.items ≡ text.old.items ++ decimal number) }
 {
     let mut buffer = Buffer::new();
@@ -71,6 +73,7 @@ fn put_number(text: &mut Vec<u8>, number: u8) -> Result<(), Memory>
 
 // A bar, and hundredths with two decimals.
 #[inline(always)]
+#[tactic(auto, unfolding(crate::specs::Field::field))]
 fn put_hundredths(text: &mut Vec<u8>, number: u32) -> Result<(), Memory>
     ensures { OnOk result (text.new.items ≡ text.old.items ++ hundredths_text number) }
 {

@@ -88,7 +88,7 @@ fn put_reply(text: &mut Vec<u8>, reply: &Reply) -> Result<(), Memory>
         Reply::DropLines(lines) => put_drop(text, lines),
         Reply::Found { front, row, tuple } => put_found(text, *front, *row, tuple),
         Reply::Absent { front } => put_field(text, b"absent front=", *front),
-        Reply::Rows { front, list, patched } => put_rows(text, *front, list.as_slice(), *patched),
+        Reply::Rows { front, list, patched } => put_rows(text, *front, list, *patched),
         Reply::Count { front, count, patched } => put_count(text, *front, *count, *patched),
         Reply::Sum { front, count, sum, patched } => put_sum(text, b"sum front=", *front, *count, *sum, *patched),
         Reply::Q6 { front, count, sum, patched } => put_sum(text, b"q6 front=", *front, *count, *sum, *patched),
@@ -96,6 +96,7 @@ fn put_reply(text: &mut Vec<u8>, reply: &Reply) -> Result<(), Memory>
     }
 }
 
+#[tactic(auto, unfolding(crate::specs::Field::two_fields))]
 fn put_two(text: &mut Vec<u8>, label: &[u8], number: u32, next: &[u8], second: u32) -> Result<(), Memory>
     ensures { OnOk result (text.new.items ≡ text.old.items ++ two_fields label.now number next.now second) }
 {
@@ -139,24 +140,23 @@ fn put_merge(text: &mut Vec<u8>, merged: u32, fresh: u32, busy: u32) -> Result<(
     Ok(())
 }
 
-fn put_rows(text: &mut Vec<u8>, front: u32, list: &[u32], patched: u32) -> Result<(), Memory>
-    requires { length list.now < 2 ^ 32 }
+fn put_rows(text: &mut Vec<u8>, front: u32, list: &RowList, patched: u32) -> Result<(), Memory>
     ensures { OnOk result (text.new.items ≡ text.old.items ++ rows_reply front list.now patched) }
 {
-    put_two(text, b"rows front=", front, b" count=", list.len() as u32)?;
-    text.extend_from_slice(b" list=")?;
-    put_list(text, list)?;
+    put_two(text, b"rows front=", front, b" count=", list.len())?;
+    put_list(text, list.as_slice())?;
     put_field(text, b" patched=", patched)?;
     Ok(())
 }
 
+#[tactic(auto, unfolding(crate::specs::Reply::list_text))]
 fn put_list(text: &mut Vec<u8>, list: &[u32]) -> Result<(), Memory>
     ensures { OnOk result (text.new.items ≡ text.old.items ++ list_text list.now) }
 {
     match list {
-        [] => text.extend_from_slice(b"-"),
+        [] => text.extend_from_slice(b" list=-"),
         [first, rest @ ..] => {
-            put_field(text, b"", *first)?;
+            put_field(text, b" list=", *first)?;
             put_rest(text, rest)
         }
     }
