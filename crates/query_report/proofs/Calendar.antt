@@ -66,8 +66,10 @@ dated-next d n is room =
   where
     ends : nat_lt d.day (days_in_month (pos d.year) d.month) ≡ false → d.day ≡ days_in_month (pos d.year) d.month
     ends last = omega (arith, is.day_high, ltb-false d.day (days_in_month (pos d.year) d.month) last)
+
     year_ends : nat_lt d.month 12 ≡ false → d.month ≡ 12
     year_ends december = omega (arith, is.month_high, ltb-false d.month 12 december)
+
     month_end : d.day ≡ days_in_month (pos d.year) d.month
         → day_count (pos d.year) (d.month + 1) 1 ≡ n + 1 + day_count (pos 1992) 1 1
     month_end last = omega (
@@ -77,9 +79,11 @@ dated-next d n is room =
       day_count-next_month (pos d.year) d.month is.month_low,
       day_count-day (pos d.year) d.month d.day 1 is.day_low (omega arith),
     )
+
     year_last : d.day ≡ days_in_month (pos d.year) d.month → d.month ≡ 12
         → day_count (pos d.year) 12 31 ≡ n + day_count (pos 1992) 1 1
     year_last last december = rw (last, december) at is.count
+
     year_end : d.day ≡ days_in_month (pos d.year) d.month → d.month ≡ 12 → d.year + 1 ≤ 1998
     year_end last december =
         elim (cases_order d.year 1998) [
@@ -87,6 +91,7 @@ dated-next d n is room =
           | inr (inl before) ↦ omega arith
           | inr (inr after) ↦ absurd (omega (arith, is.year_high))
         ]
+
     new_year : d.day ≡ days_in_month (pos d.year) d.month → d.month ≡ 12
         → day_count (pos (d.year + 1)) 1 1 ≡ n + 1 + day_count (pos 1992) 1 1
     new_year last december =
@@ -128,18 +133,35 @@ same_date a b n here there =
       (is.month_low, is.month_high),
       (is.day_low, is.day_high),
     )
+
     earlier_year : (a b : DateValue) (n : ℕ) → IsDated a n → IsDated b n → a.year < b.year → ⊥
     earlier_year a b n here there before =
-        omega (arith, here.count, there.count, day_count-lt_year (pos a.year) a.month a.day (pos b.year) b.month b.day
-        (civil a n here) there.day_low (omega (arith, ints)))
+        omega (
+          arith,
+          here.count,
+          there.count,
+          day_count-lt_year (pos a.year) a.month a.day (pos b.year) b.month b.day
+              (civil a n here) there.day_low (omega (arith, ints)),
+        )
+
     earlier_month : (a b : DateValue) (n : ℕ) → IsDated a n → IsDated b n → a.year ≡ b.year → a.month < b.month → ⊥
     earlier_month a b n here there year before =
-        omega (arith, here.count, rw (← year) at there.count, day_count-lt_month (pos a.year) a.month a.day b.month b.day
-        (civil a n here) there.day_low before)
+        omega (
+          arith,
+          here.count,
+          rw (← year) at there.count,
+          day_count-lt_month (pos a.year) a.month a.day b.month b.day
+              (civil a n here) there.day_low before,
+        )
+
     days : a.year ≡ b.year → a.month ≡ b.month → a.day ≡ b.day
     days year month =
-        omega (arith, here.count, rw (← year, ← month) at there.count,
-        day_count-day (pos a.year) a.month a.day b.day here.day_low there.day_low)
+        omega (
+          arith,
+          here.count,
+          rw (← year, ← month) at there.count,
+          day_count-day (pos a.year) a.month a.day b.day here.day_low there.day_low,
+        )
 
 -- no day from 1992 on lies before its first one
 first_day : (year month day : ℕ) → 1992 ≤ year → 1 ≤ day
@@ -148,8 +170,11 @@ first_day year month day low day_low =
     elim (cases_order 1992 year) [
       | inl same ↦ rw (← same) (omega (arith, day_count-day_of_year (pos 1992) month day day_low))
       | inr (inl before) ↦
-          omega (arith, day_count-day_of_year (pos year) month day day_low,
-          day_count-later_year (pos 1992) (pos year) (omega (arith, ints)) (omega (arith, ints)))
+          omega (
+            arith,
+            day_count-day_of_year (pos year) month day day_low,
+            day_count-later_year (pos 1992) (pos year) (omega (arith, ints)) (omega (arith, ints)),
+          )
       | inr (inr after) ↦ absurd (omega arith)
     ]
 

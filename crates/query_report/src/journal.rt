@@ -64,3 +64,6 @@ fn put_place(text: &mut Vec<u8>, place: u32, delta: &Delta) -> Result<(), Memory
     put_field(text, b" row=", delta.row)?;
     Ok(())
 }
+
+#[cfg(test)]
+mod tests;

@@ -28,19 +28,19 @@
 #![tactic(auto)]
 
 mod answer;
-mod piece;
-mod reply;
-mod reply_table;
 mod decimal;
 mod journal;
+mod piece;
 mod refusal;
+mod reply;
+mod reply_table;
 mod stop;
 
 pub use answer::answer_line;
 pub use decimal::decimal4;
 pub use journal::journal_text;
+pub use refusal::{Detail, Refusal};
 pub use reply::{DropLine, Reply, reply_text};
 pub use reply_table::ReplyTable;
-pub use refusal::{Detail, Refusal};
 pub use std::alloc::AllocError as Memory;
 pub use stop::Stop;

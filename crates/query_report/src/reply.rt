@@ -24,31 +24,71 @@ pub enum DropLine {
 #[derive(Drop)]
 pub enum Reply {
     /// The change of this row has this place.
-    Placed { place: u32, row: u32 },
+    Placed {
+        place: u32,
+        row: u32,
+    },
     /// The key is live, at this row.
-    Duplicate { front: u32, row: u32 },
+    Duplicate {
+        front: u32,
+        row: u32,
+    },
     /// The key is not live.
-    Missing { front: u32 },
+    Missing {
+        front: u32,
+    },
     /// No row may be added.
-    TableFull { front: u32 },
+    TableFull {
+        front: u32,
+    },
     /// No delta may be added.
-    LogFull { front: u32 },
+    LogFull {
+        front: u32,
+    },
     /// What became of the lines 1 to 7 of an order.
     DropLines([DropLine; 7]),
     /// The key's live row.
-    Found { front: u32, row: u32, tuple: Tuple },
+    Found {
+        front: u32,
+        row: u32,
+        tuple: Tuple,
+    },
     /// The key is not live.
-    Absent { front: u32 },
+    Absent {
+        front: u32,
+    },
     /// The rows that match; `patched` deltas were looked at.
-    Rows { front: u32, list: RowList, patched: u32 },
+    Rows {
+        front: u32,
+        list: RowList,
+        patched: u32,
+    },
     /// How many rows match.
-    Count { front: u32, count: u32, patched: u32 },
+    Count {
+        front: u32,
+        count: u32,
+        patched: u32,
+    },
     /// How many rows match, and the sum of price times discount over them in units of 0.0001.
-    Sum { front: u32, count: u32, sum: u64, patched: u32 },
+    Sum {
+        front: u32,
+        count: u32,
+        sum: u64,
+        patched: u32,
+    },
     /// The same for the form of TPC-H's query 6.
-    Q6 { front: u32, count: u32, sum: u64, patched: u32 },
+    Q6 {
+        front: u32,
+        count: u32,
+        sum: u64,
+        patched: u32,
+    },
     /// How many units were merged, had nothing to merge, or were in others' hands.
-    Merge { merged: u32, fresh: u32, busy: u32 },
+    Merge {
+        merged: u32,
+        fresh: u32,
+        busy: u32,
+    },
 }
 
 // About as much as a reply's line takes.
@@ -65,7 +105,12 @@ pub fn reply_text(alloc: Global, worker: u8, number: u32, reply: &Reply) -> Resu
 
 /// The same at the end of a text.
 #[tactic(auto, unfolding(crate::specs::Reply::reply_line))]
-pub(crate) fn put_reply_line(text: &mut Vec<u8>, worker: u8, number: u32, reply: &Reply) -> Result<(), Memory>
+pub(crate) fn put_reply_line(
+    text: &mut Vec<u8>,
+    worker: u8,
+    number: u32,
+    reply: &Reply,
+) -> Result<(), Memory>
     ensures { OnOk result (text.new.items ≡ text.old.items ++ reply_line worker number reply.now) }
 {
     put_two(text, b"w", u32::from(worker), b" ", number)?;
@@ -81,23 +126,57 @@ fn put_reply(text: &mut Vec<u8>, reply: &Reply) -> Result<(), Memory>
 {
     match reply {
         Reply::Placed { place, row } => put_two(text, b"placed at=", *place, b" row=", *row),
-        Reply::Duplicate { front, row } => put_two(text, b"duplicate front=", *front, b" row=", *row),
+        Reply::Duplicate { front, row } => put_two(
+            text,
+            b"duplicate front=",
+            *front,
+            b" row=",
+            *row,
+        ),
         Reply::Missing { front } => put_field(text, b"missing front=", *front),
         Reply::TableFull { front } => put_field(text, b"table-full front=", *front),
         Reply::LogFull { front } => put_field(text, b"log-full front=", *front),
         Reply::DropLines(lines) => put_drop(text, lines),
         Reply::Found { front, row, tuple } => put_found(text, *front, *row, tuple),
         Reply::Absent { front } => put_field(text, b"absent front=", *front),
-        Reply::Rows { front, list, patched } => put_rows(text, *front, list, *patched),
-        Reply::Count { front, count, patched } => put_count(text, *front, *count, *patched),
-        Reply::Sum { front, count, sum, patched } => put_sum(text, b"sum front=", *front, *count, *sum, *patched),
-        Reply::Q6 { front, count, sum, patched } => put_sum(text, b"q6 front=", *front, *count, *sum, *patched),
-        Reply::Merge { merged, fresh, busy } => put_merge(text, *merged, *fresh, *busy),
+        Reply::Rows {
+            front,
+            list,
+            patched,
+        } => put_rows(text, *front, list, *patched),
+        Reply::Count {
+            front,
+            count,
+            patched,
+        } => put_count(text, *front, *count, *patched),
+        Reply::Sum {
+            front,
+            count,
+            sum,
+            patched,
+        } => put_sum(text, b"sum front=", *front, *count, *sum, *patched),
+        Reply::Q6 {
+            front,
+            count,
+            sum,
+            patched,
+        } => put_sum(text, b"q6 front=", *front, *count, *sum, *patched),
+        Reply::Merge {
+            merged,
+            fresh,
+            busy,
+        } => put_merge(text, *merged, *fresh, *busy),
     }
 }
 
 #[tactic(auto, unfolding(crate::specs::Field::two_fields))]
-fn put_two(text: &mut Vec<u8>, label: &[u8], number: u32, next: &[u8], second: u32) -> Result<(), Memory>
+fn put_two(
+    text: &mut Vec<u8>,
+    label: &[u8],
+    number: u32,
+    next: &[u8],
+    second: u32,
+) -> Result<(), Memory>
     ensures { OnOk result (text.new.items ≡ text.old.items ++ two_fields label.now number next.now second) }
 {
     put_field(text, label, number)?;
@@ -122,7 +201,14 @@ fn put_count(text: &mut Vec<u8>, front: u32, count: u32, patched: u32) -> Result
     Ok(())
 }
 
-fn put_sum(text: &mut Vec<u8>, label: &[u8], front: u32, count: u32, sum: u64, patched: u32) -> Result<(), Memory>
+fn put_sum(
+    text: &mut Vec<u8>,
+    label: &[u8],
+    front: u32,
+    count: u32,
+    sum: u64,
+    patched: u32,
+) -> Result<(), Memory>
     ensures { OnOk result (text.new.items ≡ text.old.items ++ sum_text label.now front count sum patched) }
 {
     put_two(text, label, front, b" count=", count)?;
@@ -213,3 +299,6 @@ fn put_drop_line(text: &mut Vec<u8>, digit: u8, line: DropLine) -> Result<(), Me
         DropLine::LogFull(front) => put_field(text, b"f", front),
     }
 }
+
+#[cfg(test)]
+mod tests;

@@ -139,3 +139,6 @@ fn lists_to(alloc: Global, empty: usize, reply: Reply) -> Result<Vec<ReplyList>,
     lists.push(last)?;
     Ok(lists)
 }
+
+#[cfg(test)]
+mod tests;
