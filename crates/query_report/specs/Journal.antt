@@ -13,7 +13,8 @@ place_text place d =
 -- the line of the delta at a place
 unfoldable pub delta_line : ℕ → Delta → List ℕ
 delta_line place d =
-    place_text place d ++ (codes " old=" ++ (held_text d.before ++ (codes " new=" ++ (held_text d.after ++ codes "\n"))))
+    place_text place d
+    ++ (codes " old=" ++ (held_text d.before ++ (codes " new=" ++ (held_text d.after ++ codes "\n"))))
 
 -- the lines of deltas from a place on
 unfoldable pub delta_lines : ℕ → List Delta → List ℕ

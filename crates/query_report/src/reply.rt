@@ -1,5 +1,5 @@
 //! Replies to commands, and their texts.
-ghost use Rattle.std.specs.Prelude.{◌≡◌, ◌+◌, ◌<◌, ◌≤◌, ◌^◌, ◌++◌, length, count_by, OnOk, IfOk};
+ghost use Rattle.std.specs.Prelude.{◌≡◌, ◌+◌, ◌<◌, ◌≤◌, ◌^◌, ◌++◌, length, codes, count_by, OnOk, IfOk};
 ghost use Rattle.query_report.specs.Field.{two_fields};
 ghost use Rattle.query_report.specs.Reply.{numbered_text, drops_text, drop_reply, is_deleted, more_text, list_text, rows_reply, found_text, count_text, sum_text, merge_text, reply_bytes, reply_line};
 
@@ -19,8 +19,8 @@ pub enum DropLine {
     LogFull(u32),
 }
 
-/// The reply to a command. A place is that of the command's delta, from 0; a front is the length of the prefix of the log
-/// at which the command was answered.
+/// The reply to a command. A place is that of the command's delta, from 0; a front is the length of the prefix of the
+/// log at which the command was answered.
 #[derive(Drop)]
 pub enum Reply {
     /// The change of this row has this place.
@@ -126,13 +126,7 @@ fn put_reply(text: &mut Vec<u8>, reply: &Reply) -> Result<(), Memory>
 {
     match reply {
         Reply::Placed { place, row } => put_two(text, b"placed at=", *place, b" row=", *row),
-        Reply::Duplicate { front, row } => put_two(
-            text,
-            b"duplicate front=",
-            *front,
-            b" row=",
-            *row,
-        ),
+        Reply::Duplicate { front, row } => put_duplicate(text, *front, *row),
         Reply::Missing { front } => put_field(text, b"missing front=", *front),
         Reply::TableFull { front } => put_field(text, b"table-full front=", *front),
         Reply::LogFull { front } => put_field(text, b"log-full front=", *front),
@@ -182,6 +176,13 @@ fn put_two(
     put_field(text, label, number)?;
     put_field(text, next, second)?;
     Ok(())
+}
+
+fn put_duplicate(text: &mut Vec<u8>, front: u32, row: u32) -> Result<(), Memory>
+    ensures { OnOk result (text.new.items ≡ text.old.items
+        ++ two_fields (codes "duplicate front=") front (codes " row=") row) }
+{
+    put_two(text, b"duplicate front=", front, b" row=", row)
 }
 
 fn put_found(text: &mut Vec<u8>, front: u32, row: u32, tuple: &Tuple) -> Result<(), Memory>

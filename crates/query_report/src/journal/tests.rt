@@ -1,3 +1,5 @@
+ghost use Rattle.std.specs.Prelude.{◌≤◌};
+
 use super::*;
 use cubit_base::{Flag, Key, LineStatus, Tuple};
 use std::test::Fail;
