@@ -1,8 +1,8 @@
 -- The dates of the days from 1 January 1992 to 31 December 1998.
-use Rattle.std.proofs.Common.{inl, inr, ◌≡◌, ℕ, zero, suc, ◌+◌, ◌-◌, ◌<◌, ◌≤◌, ◌∙◌, ◌&&◌, nat_le, nat_lt, Bool, true, false, cond, Some, None, pos, refl, sym, ap, zero-add, arith, le-leb, leb-true}
+use Rattle.std.proofs.Common.{inl, inr, ◌≡◌, ℕ, zero, suc, ◌+◌, ◌<◌, ◌≤◌, ◌∙◌, ◌&&◌, nat_le, nat_lt, Bool, true, false, cond, Some, None, pos, refl, sym, ap, zero-add, arith, leb-true}
 use Rattle.std.proofs.lemmas.Bool.{cases_Bool, cases_order, and_parts, ltb-true, ltb-false}
 use Rattle.std.proofs.lemmas.Int.{ints}
-use Rattle.jiff_core.specs.Calendar.{day_count, day_of_year, days_in_month, days_in_year, IsCivilDate}
+use Rattle.jiff_core.specs.Calendar.{day_count, days_in_month, days_in_year, IsCivilDate}
 use Rattle.jiff_core.proofs.CalendarLemmas.{day_count-next_month, day_count-next_year, day_count-last_of_year, day_count-day, day_count-lt_year, day_count-lt_month, day_count-day_of_year, day_count-later_year, days_in_month_bounds}
 use Rattle.cubit_base.specs.Day.{is_day, day_number, day_value}
 use Rattle.query_report.specs.Date.{DateValue, next_date, date_at}

@@ -1,5 +1,5 @@
 -- The calendar from 1 January 1992 on, and the text of its days.
-use Rattle.std.specs.Prelude.{ℕ, zero, suc, ◌+◌, List, [], ◌∷◌, ◌++◌, nat_lt, if◌then◌else◌, pos}
+use Rattle.std.specs.Prelude.{ℕ, zero, suc, ◌+◌, List, ◌∷◌, ◌++◌, nat_lt, if◌then◌else◌, pos}
 use Rattle.jiff_core.specs.Calendar.{days_in_month}
 use Rattle.query_report.specs.Decimal.{four_digits}
 use Rattle.query_report.specs.Field.{two_digits}

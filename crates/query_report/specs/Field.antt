@@ -1,5 +1,5 @@
 -- The pieces of a report's lines.
-use Rattle.std.specs.Prelude.{ℕ, ◌+◌, ◌/◌, ◌%◌, List, [], ◌∷◌, ◌++◌, codes, decimal}
+use Rattle.std.specs.Prelude.{ℕ, ◌+◌, ◌/◌, ◌%◌, List, [], ◌∷◌, ◌++◌, decimal}
 use Rattle.cubit_base.specs.declared.tuple.Flag.{Flag}
 use Rattle.cubit_base.specs.declared.tuple.Flag.TheVariants.{A, N, R}
 use Rattle.cubit_base.specs.declared.tuple.LineStatus.{LineStatus}

@@ -1,12 +1,12 @@
-//! The texts of the program: replies and the journal of a run, the line of an answer, and what standard error is told of
-//! a call that wrote none. Each is fixed byte for byte, as docs/FORMATS.md gives it. `ReplyTable` keeps the replies of
-//! all workers.
+//! The texts of the program: replies and the journal of a run, the line of an answer, and what standard error is told
+//! of a call that wrote none. Each is fixed byte for byte, as docs/FORMATS.md gives it. `ReplyTable` keeps the replies
+//! of all workers.
 //!
 //! # Proved
 //!
 //! - `reply_text`: the line of a worker's reply to a command (`reply_line`), one form for each kind of reply.
-//! - `journal_text`: the number of the deltas, and the line of each in order (`journal_bytes`). A date is the day so many
-//!   days after 1 January 1992 on the calendar (`date_at`).
+//! - `journal_text`: the number of the deltas, and the line of each in order (`journal_bytes`). A date is the day so
+//!   many days after 1 January 1992 on the calendar (`date_at`).
 //! - `ReplyTable`: contracts see it as a list of replies for each worker. `add`: the reply stands at the end of the
 //!   worker's list, and lists that were missing before it are empty (`ok`), or nothing changed (`err`). `get`, `len`,
 //!   `workers`: what that list has.

@@ -1,4 +1,4 @@
-use Rattle.std.proofs.Common.{◌≡◌, ◌∙◌, sym, ap}
+use Rattle.std.proofs.Common.{◌∙◌, sym, ap}
 use Rattle.query_report.specs.Date.{date_text, ymd_text}
 use Rattle.query_report.proofs.Calendar.{date_at-value}
 use Rattle.query_report.proofs.piece.date_digits.Goals as goal
