@@ -17,7 +17,7 @@ pub fn decimal4(alloc: Global, units: u64) -> Result<Vec<u8>, Memory>
 }
 
 // The point and the four digits behind it.
-fn fraction(part: u16) -> [u8; 5]
+pub(crate) fn fraction(part: u16) -> [u8; 5]
     requires { part < 10_000 }
     ensures { result ≡ 46 ∷ four_digits part }
 {
@@ -30,7 +30,7 @@ fn fraction(part: u16) -> [u8; 5]
     ]
 }
 
-fn digit(n: u16) -> u8
+pub(crate) fn digit(n: u16) -> u8
     requires { n < 10 }
     ensures { result ≡ 48 + n }
 {

@@ -1,8 +1,15 @@
-//! The texts of the program: the line of an answer, and what standard error is told of a call that wrote none. Each is
-//! fixed byte for byte, as docs/FORMATS.md gives it.
+//! The texts of the program: replies and the journal of a run, the line of an answer, and what standard error is told
+//! of a call that wrote none. Each is fixed byte for byte, as docs/FORMATS.md gives it. `ReplyTable` keeps the replies
+//! of all workers.
 //!
 //! # Proved
 //!
+//! - `reply_text`: the line of a worker's reply to a command (`reply_line`), one form for each kind of reply.
+//! - `journal_text`: the number of the deltas, and the line of each in order (`journal_bytes`). A date is the day so
+//!   many days after 1 January 1992 on the calendar (`date_at`).
+//! - `ReplyTable`: contracts see it as a list of replies for each worker. `add`: the reply stands at the end of the
+//!   worker's list, and lists that were missing before it are empty (`ok`), or nothing changed (`err`). `get`, `len`,
+//!   `workers`: what that list has.
 //! - `decimal4`: the whole units without leading zeros, a point, and four digits (`decimal4_text`).
 //! - `answer_line`: the line of a count and a sum (`answer_text`).
 //! - `Stop::tell`: a sink takes the one line of why a call stopped (`stop_text`), in order and as far as it goes, and
@@ -10,30 +17,38 @@
 //!
 //! # Only tested
 //!
-//! That the texts are the ones meant: a row for each of them, and sums from 0 to the last of 64 bits.
+//! That the texts are the ones meant: a row for each of them, with the least and the greatest numbers.
 //!
 //! # Not said
 //!
-//! - That memory is found for a text.
+//! - That memory is found for a text or a reply.
 //! - What a sink does with what it took.
+//! - That a reply is true of anything: a table takes any replies.
 //!
 //! # Example
 //!
 //! ```
-//! let line = answer_line(alloc, &table.totals(&predicate))?;
-//! if write_all(&mut out, &line).is_err() {
-//!     Stop::SinkFault.tell(&mut err);
-//! }
+//! let mut replies = ReplyTable::new(alloc);
+//! replies.add(alloc, 0, Reply::Missing { front: log_len })?;
+//! let line = reply_text(alloc, 0, replies.len(0), &Reply::Missing { front: log_len })?;
+//! let journal = journal_text(alloc, &deltas)?;
 //! ```
 #![tactic(auto)]
 
 mod answer;
 mod decimal;
+mod journal;
+mod piece;
 mod refusal;
+mod reply;
+mod reply_table;
 mod stop;
 
 pub use answer::answer_line;
 pub use decimal::decimal4;
+pub use journal::journal_text;
 pub use refusal::{Detail, Refusal};
+pub use reply::{DropLine, Reply, reply_text};
+pub use reply_table::ReplyTable;
 pub use std::alloc::AllocError as Memory;
 pub use stop::Stop;

@@ -1,0 +1,88 @@
+-- The text of a reply, and of its line.
+use Rattle.std.specs.Prelude.{ℕ, ◌+◌, Bool, true, false, List, [], ◌∷◌, ◌++◌, length, count_by, codes}
+use Rattle.cubit_base.specs.Tuple.{TupleValue}
+use Rattle.query_report.specs.declared.reply.DropLine.{DropLine}
+use Rattle.query_report.specs.declared.reply.DropLine.TheVariants as of
+use Rattle.query_report.specs.declared.reply.Reply.{Reply}
+use Rattle.query_report.specs.declared.reply.Reply.TheVariants.{Placed, Duplicate, Missing, TableFull, LogFull, DropLines, Found, Absent, Rows, Count, Sum, Q6, Merge}
+use Rattle.query_report.specs.Decimal.{decimal4_text}
+use Rattle.query_report.specs.Field.{field, two_fields}
+use Rattle.query_report.specs.TupleText.{tuple_text}
+
+-- p and the place of the delta; m or f and the length of the front at which the line is missing or the log is full
+abbrev pub drop_text : DropLine → List ℕ
+drop_text (of.Placed place) = field (codes "p") place
+drop_text (of.Missing front) = field (codes "m") front
+drop_text (of.LogFull front) = field (codes "f") front
+
+abbrev pub is_deleted : DropLine → Bool
+is_deleted (of.Placed place) = true
+is_deleted (of.Missing front) = false
+is_deleted (of.LogFull front) = false
+
+-- a line behind the digit of its number
+abbrev pub numbered_text : ℕ → DropLine → List ℕ
+numbered_text digit line = (32 ∷ digit ∷ 61 ∷ []) ++ drop_text line
+
+-- lines whose digits count on from this one
+unfoldable pub drops_text : ℕ → List DropLine → List ℕ
+drops_text digit [] = []
+drops_text digit (line ∷ lines) = numbered_text digit line ++ drops_text (digit + 1) lines
+
+-- how many lines were deleted, and each line
+abbrev pub drop_reply : List DropLine → List ℕ
+drop_reply lines = field (codes "drop deleted=") (count_by is_deleted lines) ++ drops_text 49 lines
+
+-- numbers, each behind a comma
+unfoldable pub more_text : List ℕ → List ℕ
+more_text [] = []
+more_text (row ∷ rows) = field (codes ",") row ++ more_text rows
+
+-- numbers with commas between them, and a hyphen for none
+unfoldable pub list_text : List ℕ → List ℕ
+list_text [] = codes " list=-"
+list_text (row ∷ rows) = field (codes " list=") row ++ more_text rows
+
+-- the front's length, how many rows match, these rows, and how many deltas were looked at
+abbrev pub rows_reply : ℕ → List ℕ → ℕ → List ℕ
+rows_reply front list patched =
+    two_fields (codes "rows front=") front (codes " count=") (length list)
+    ++ (list_text list ++ field (codes " patched=") patched)
+
+abbrev pub found_text : ℕ → ℕ → TupleValue → List ℕ
+found_text front row tuple =
+    two_fields (codes "found front=") front (codes " row=") row ++ (codes " tuple=" ++ tuple_text tuple)
+
+abbrev pub count_text : ℕ → ℕ → ℕ → List ℕ
+count_text front count patched =
+    two_fields (codes "count front=") front (codes " count=") count ++ field (codes " patched=") patched
+
+-- the sum in units of 0.0001
+abbrev pub sum_text : List ℕ → ℕ → ℕ → ℕ → ℕ → List ℕ
+sum_text label front count sum patched =
+    two_fields label front (codes " count=") count
+    ++ (codes " sum=" ++ (decimal4_text sum ++ field (codes " patched=") patched))
+
+abbrev pub merge_text : ℕ → ℕ → ℕ → List ℕ
+merge_text merged fresh busy =
+    two_fields (codes "merge merged=") merged (codes " fresh=") fresh ++ field (codes " busy=") busy
+
+unfoldable pub reply_bytes : Reply → List ℕ
+reply_bytes (Placed place row) = two_fields (codes "placed at=") place (codes " row=") row
+reply_bytes (Duplicate front row) = two_fields (codes "duplicate front=") front (codes " row=") row
+reply_bytes (Missing front) = field (codes "missing front=") front
+reply_bytes (TableFull front) = field (codes "table-full front=") front
+reply_bytes (LogFull front) = field (codes "log-full front=") front
+reply_bytes (DropLines lines) = drop_reply lines
+reply_bytes (Found front row tuple) = found_text front row tuple
+reply_bytes (Absent front) = field (codes "absent front=") front
+reply_bytes (Rows front list patched) = rows_reply front list patched
+reply_bytes (Count front count patched) = count_text front count patched
+reply_bytes (Sum front count sum patched) = sum_text (codes "sum front=") front count sum patched
+reply_bytes (Q6 front count sum patched) = sum_text (codes "q6 front=") front count sum patched
+reply_bytes (Merge merged fresh busy) = merge_text merged fresh busy
+
+-- the line of a worker's reply to its command with this number, counted from 1
+unfoldable pub reply_line : ℕ → ℕ → Reply → List ℕ
+reply_line worker number reply =
+    two_fields (codes "w") worker (codes " ") number ++ (codes " " ++ (reply_bytes reply ++ codes "\n"))
