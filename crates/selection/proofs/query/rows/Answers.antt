@@ -10,7 +10,7 @@ pub returns-in_err-list-clause-reads : goal.returns-in_err-list-clause-reads
 returns-in_err-list-clause-reads g c =
     let terms = g.S.Log.CommitLog.terms in
     let most = λ (seen : List Delta). c.rows-list.new.reads
-        ≤ c.args.reads.now + part_count c.args.predicate.now (after terms.base seen) in
+    ≤ c.args.reads.now + part_count c.args.predicate.now (after terms.base seen) in
     subst most c.in_ok-asked.ensures.asked.seen
     (subst (λ s. c.rows-list.new.reads ≤ c.args.reads.now + part_count s.predicate (table_at terms s.taken))
     c.new.ensures c.rows-list.ensures.reads)
@@ -19,7 +19,7 @@ pub returns-clause-reads : goal.returns-clause-reads
 returns-clause-reads g c =
     let terms = g.S.Log.CommitLog.terms in
     let most = λ (seen : List Delta). c.rows-list.new.reads
-        ≤ c.args.reads.now + part_count c.args.predicate.now (after terms.base seen) in
+    ≤ c.args.reads.now + part_count c.args.predicate.now (after terms.base seen) in
     subst most c.in_ok-asked.ensures.asked.seen
     (subst (λ s. c.rows-list.new.reads ≤ c.args.reads.now + part_count s.predicate (table_at terms s.taken))
     c.new.ensures c.rows-list.ensures.reads)
