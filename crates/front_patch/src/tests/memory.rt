@@ -52,9 +52,9 @@ fn session<S: Setup, N: Ledger, M: Ledger, R: Abort + AllocGlobal>(
     requires table { table ≡ S.base }
 {
     commit_log::laws::handles();
-    let mut store = MemoryStore::make(rt.alloc(), base, log)?;
     let start = log.start();
     let (front, now) = grow_by(rt, log, start, table, (0, 9), steps)?;
+    let mut store = MemoryStore::make(rt.alloc(), base, log)?;
     let plan = plan_of(some(48, 54), None, some(10, 20), true);
     take_and_leave(rt, log, &mut store, base, &plan, steps);
     let told = agrees(rt, log, &mut store, base, &now, &plan, steps, reads)?;

@@ -1,4 +1,4 @@
-use Rattle.selection.proofs.tests.worked.check.Given as goal
+use Rattle.selection.proofs.tests.worked.check_replaced.Given as goal
 
 abbrev pub ghosts-over-S-Setup : goal.ghosts-over-S-Setup
 ghosts-over-S-Setup g a = record {
