@@ -82,13 +82,29 @@ const QUERIES: [((u16, u8, u8), [&str; 3]); 12] = [
     ((1998, 5, 51), ["1998", "0.05", "51"]),
 ];
 
-// The call answers each query as a pass over the rows of the table does.
+// The line that a pass over all rows of the table gives.
+fn line_by_rows(
+    rt: &impl Abort,
+    alloc: Global,
+    base: &[u8],
+    year: u16,
+    disc: u8,
+    qty: u8,
+) -> Result<Vec<u8>, AllocError> {
+    assert!(rt; base.len() < 1_000_000);
+    assert!(rt; 1992 <= year && year <= 1998);
+    assert!(rt; disc <= 10);
+    assert!(rt; 1 <= qty && qty <= 51);
+    let Ok(table) = base_of(alloc, base, ROW_LIMIT) else {
+        panic!(rt; "no table");
+    };
+    answer_line(alloc, &table.totals(&Predicate::q6(year, disc, qty)))
+}
+
+// The call answers each query so.
 fn answers_as_the_rows(rt: &impl Abort, alloc: Global, base: &[u8]) -> Result<(), AllocError> {
     for ((year, disc, qty), [a, b, c]) in QUERIES {
-        let Ok(table) = base_of(alloc, base, ROW_LIMIT) else {
-            panic!(rt; "no table");
-        };
-        let line = answer_line(alloc, &table.totals(&Predicate::q6(year, disc, qty)))?;
+        let line = line_by_rows(rt, alloc, base, year, disc, qty)?;
         let line = String::from_utf8_lossy(alloc, &line)?;
         answers(rt, alloc, base, &["q6", "A", a, b, c], &line)?;
     }
