@@ -1,6 +1,7 @@
 -- How a space cuts off the first word.
-use Rattle.std.proofs.Common.{◌≡◌, ℕ, ◌+◌, ◌<◌, ◌≤◌, suc, Bool, true, false, cond, not, List, [], ◌∷◌, length, take, drop, count_by, refl, arith}
+use Rattle.std.proofs.Common.{◌≡◌, ℕ, ◌+◌, ◌<◌, ◌≤◌, suc, Bool, true, false, cond, not, List, [], ◌∷◌, length, take, drop, count_by, refl, sym, arith}
 use Rattle.std.specs.List.{position_or_len, onto_first}
+use Rattle.std.proofs.lemmas.Bool.{false≢true}
 use Rattle.std.proofs.lemmas.List.Sums.{sum_by-cons}
 use Rattle.tbl_text.specs.Values.{is_space, words_of}
 
@@ -31,12 +32,12 @@ spaces-cond false b at others bytes is known =
     let two : 1 + at + 1 ≡ suc (at + 1) = omega arith in
     rw two (omega (arith, is, known refl))
 
-below-cond : (t : Bool) (at len : ℕ) → (t ≡ false → at < len) → cond (not t) (1 + at) 0 < 1 + len
+below-cond : (t : Bool) (at len : ℕ) → (t ≡ false → at < len) → cond (not t) (1 + at) 0 < suc len
 below-cond true at len known = omega arith
 below-cond false at len known = omega (arith, known refl)
 
 some-cond : (t : Bool) (n : ℕ) → 1 ≤ cond t 1 0 + n → t ≡ false → 1 ≤ n
-some-cond true n some ()
+some-cond true n some is = absurd (false≢true (sym is))
 some-cond false n some is = omega (arith, some)
 
 -- where there is a space, the first word ends at the first of them

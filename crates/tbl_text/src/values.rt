@@ -1,5 +1,5 @@
 //! The values of a tuple in a command, with one space between each two.
-ghost use Rattle.std.specs.Prelude.{◌≡◌, ◌+◌, ◌≤◌, [], ◌∷◌, count_by, IfErr};
+ghost use Rattle.std.specs.Prelude.{◌≡◌, ◌+◌, ◌<◌, ◌≤◌, ◌∷◌, length, count_by, IfErr};
 ghost use Rattle.std.specs.List.{position_or_len};
 ghost use Rattle.tbl_text.specs.Line.{fault_number};
 ghost use Rattle.tbl_text.specs.Values.{is_space, words_of, tuple_value, listed_values};
@@ -62,16 +62,18 @@ fn first_word(bytes: &[u8]) -> (&[u8], &[u8])
     (&bytes[..at], &bytes[at + 1..])
 }
 
-// The place of the first space, or the number of bytes.
+// The place of the first space.
 fn space_at(bytes: &[u8]) -> usize
-    ensures { result ≡ position_or_len is_space bytes.now }
+    requires { 1 ≤ count_by is_space bytes.now }
+    ensures place { result ≡ position_or_len is_space bytes.now }
+    ensures below { result < length bytes.now }
 {
     for (at, b) in bytes.iter().enumerate() {
         if *b == b' ' {
             return at;
         }
     }
-    bytes.len()
+    unreachable!()
 }
 
 // What seven values say, from left to right.
