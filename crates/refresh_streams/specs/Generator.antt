@@ -14,15 +14,15 @@ use Rattle.cubit_base.specs.declared.tuple.LineStatus.TheVariants.{F, O}
 
 -- from a state, a value and the next state
 abbrev pub Drawn : Type 0 → Type 0
-Drawn A = ℕ → A × ℕ
+Drawn X = ℕ → X × ℕ
 
 -- one drawn value, and then what is drawn for it
 infixl 10 ◌>>=◌
-abbrev pub ◌>>=◌ : {A B : Type 0} → Drawn A → (A → Drawn B) → Drawn B
+abbrev pub ◌>>=◌ : {X Y : Type 0} → Drawn X → (X → Drawn Y) → Drawn Y
 (first >>= then') state = then' (first state).0 (first state).1
 
 -- nothing more is drawn
-abbrev pub done : {A : Type 0} → A → Drawn A
+abbrev pub done : {X : Type 0} → X → Drawn X
 done value state = (value, state)
 
 -- Knuth's linear congruential generator for MMIX

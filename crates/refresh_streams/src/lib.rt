@@ -27,9 +27,9 @@
 #![tactic(auto)]
 
 mod generator;
-mod make;
 mod script;
+mod seeded;
 
-pub use make::make;
 pub use script::Script;
+pub use seeded::make;
 pub use std::alloc::AllocError as Memory;
