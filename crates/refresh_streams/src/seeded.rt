@@ -11,6 +11,7 @@ use cubit_base::{Command, Key, Predicate, Table};
 use std::alloc::Global;
 
 /// The base table of so many orders, 1 to 100,000, and a script over it, all drawn from the seed.
+#[tactic(auto, using(crate::proofs::MadeInput::orders_made_distinct, crate::proofs::MadeInput::orders_made_live, crate::proofs::MadeInput::commands_made_orders, crate::proofs::MadeInput::commands_made_weights))]
 pub fn make(alloc: Global, seed: u32, orders: u32) -> Result<(Table, Script), Memory>
     requires { (1 ≤ orders) × (orders ≤ 100_000) }
 
@@ -34,6 +35,7 @@ pub fn make(alloc: Global, seed: u32, orders: u32) -> Result<(Table, Script), Me
 }
 
 // The lines of all orders.
+#[tactic(auto, using(crate::proofs::Made::orders_made_next))]
 fn make_orders(alloc: Global, generator: &mut Generator, orders: u32) -> Result<Table, Memory>
     requires { orders ≤ 100_000 }
     ensures rows { IfOk result (λ table. table ≡ (orders_made orders generator.old.state).0) }
@@ -70,6 +72,7 @@ fn push_lines(
 }
 
 // The commands for all orders.
+#[tactic(auto, using(crate::proofs::Made::commands_made_next))]
 fn make_commands(alloc: Global, generator: &mut Generator, orders: u32) -> Result<Script, Memory>
     requires { orders ≤ 100_000 }
     ensures commands { IfOk result (λ script. script ≡ (commands_made orders orders generator.old.state).0) }
