@@ -65,3 +65,21 @@ impl Script {
         self.commands.get(n as usize)
     }
 }
+
+#[cfg(test)]
+mod tests {
+    use super::*;
+    use std::test::Fail;
+
+    #[test]
+    fn commands_come_back(rt: HostRuntime) -> Result<(), Fail> {
+        let mut script = Script::new(rt.alloc());
+        assert!(rt; script.is_empty());
+        script.push(Command::DropOrder(4_294_967_295))?;
+        script.push(Command::Merge)?;
+        assert_eq!(rt; script.len(), 2);
+        assert_eq!(rt; script.get(0).copied(), Some(Command::DropOrder(4_294_967_295)));
+        assert_eq!(rt; script.get(2).copied(), None);
+        Ok(())
+    }
+}

@@ -112,3 +112,6 @@ fn everything() -> Predicate
         status: None,
     }
 }
+
+#[cfg(test)]
+mod tests;
