@@ -1,4 +1,4 @@
-//! A client's commands: a `Script`, read from a file or made from a seed.
+//! A client's commands as a list, a `Script`, and a base table and a script over it that a seed makes.
 //!
 //! # Proved
 //!
