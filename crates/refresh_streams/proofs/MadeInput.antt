@@ -23,7 +23,14 @@ record IsRising (rows : List Row) (above : ℕ) : Type 0 where
   below : All (λ row. code row < above) rows
   live : All (λ row. IsSome row.1) rows
 
--- below a greater number, too
+rising-push : (rows : List Row) (row : Row) (above : ℕ) → IsRising rows (code row) → IsSome row.1 → code row < above
+    → IsRising (rows ++ row ∷ []) above
+rising-push rows row above rising live below = record {
+  pairs = all_pairs_push (λ a b. code a < code b) rows row rising.pairs rising.below;
+  below = All-push (λ r. code r < above) rows row (λ k d within. let here = rising.below k d within in omega (arith, here, below)) below;
+  live = All-push (λ r. IsSome r.1) rows row rising.live live;
+}
+
 rising-wider : (rows : List Row) (low high : ℕ) → low ≤ high → IsRising rows low → IsRising rows high
 rising-wider rows low high order rising = record {
   pairs = rising.pairs;
@@ -31,18 +38,6 @@ rising-wider rows low high order rising = record {
   live = rising.live;
 }
 
--- a row above all
-rising-push : (rows : List Row) (row : Row) (above : ℕ) → IsRising rows (code row) → IsSome row.1
-    → code row < above → IsRising (rows ++ row ∷ []) above
-rising-push rows row above rising live below =
-    let wider = rising-wider rows (code row) above (omega (arith, below)) rising in
-    record {
-      pairs = all_pairs_push (λ a b. code a < code b) rows row rising.pairs rising.below;
-      below = All-push (λ r. code r < above) rows row wider.below below;
-      live = All-push (λ r. IsSome r.1) rows row rising.live live;
-    }
-
--- the lines of an order stand above those of the orders before it
 lines_made-rising : (order n state : ℕ) (rows : List Row) → IsRising rows (order * 8 + 1)
     → IsRising (rows ++ (lines_made order n state).0) (order * 8 + n + 1)
 lines_made-rising order zero state rows rising =
@@ -56,7 +51,6 @@ lines_made-rising order (suc n) state rows rising =
     rw (← append_assoc rows before.0 (row ∷ []))
     (rising-push (rows ++ before.0) row (order * 8 + suc n + 1) wider refl (omega arith))
 
--- the orders so far
 orders_made-rising : (n state : ℕ) → IsRising (orders_made n state).0 (n * 8 + 8)
 orders_made-rising zero state = record {
   pairs = λ i j d order within. absurd (omega arith);
@@ -88,7 +82,6 @@ record IsWithin (commands : List Command) (most : ℕ) : Type 0 where
   orders : All DropsSomeOrder commands
   weights : weights commands ≤ most
 
--- one list behind another
 within-append : (front back : List Command) (few many : ℕ) → IsWithin front few → IsWithin back many
     → IsWithin (front ++ back) (few + many)
 within-append front back few many front_is back_is = record {
@@ -96,7 +89,6 @@ within-append front back few many front_is back_is = record {
   weights = rw (sum_by-append weight_of front back) (omega (arith, front_is.weights, back_is.weights));
 }
 
--- one command
 within-one : (command : Command) (most : ℕ) → DropsSomeOrder command → weight_of command ≤ most
     → IsWithin (command ∷ []) most
 within-one command most order weight = record {
@@ -104,7 +96,7 @@ within-one command most order weight = record {
   weights = rw (sum_by-cons weight_of command []) (omega (arith, weight));
 }
 
--- the command of a kind, by the three tests of it
+-- of the three tests of its kind
 kind-within : (is_insert is_update is_drop : Bool) (orders order state : ℕ) → 1 ≤ order
     → let command = (cond is_insert (drawn_tuple >>= (λ tuple. done (Insert (first_line_of (orders + order)) tuple)))
     (cond is_update (drawn_tuple >>= (λ tuple. done (Update (first_line_of order) tuple)))
@@ -115,18 +107,15 @@ kind-within false true is_drop orders order state some = within-one _ 7 tt (omeg
 kind-within false false true orders order state some = within-one _ 7 some (omega arith)
 kind-within false false false orders order state some = within-one _ 7 tt (omega arith)
 
--- the command for an order
 command-within : (orders order state : ℕ) → 1 ≤ order → IsWithin ((drawn_command orders order state).0 ∷ []) 7
 command-within orders order state some =
     let kind = draw 4 state in
     kind-within (kind.0 == 0) (kind.0 == 1) (kind.0 == 2) orders order kind.1 some
 
--- what follows a thousandth order
 merge-within : (is_thousandth : Bool) → IsWithin (cond is_thousandth (Merge ∷ []) []) 0
 merge-within true = within-one Merge 0 tt (omega arith)
 merge-within false = record { orders = All-nil DropsSomeOrder; weights = omega arith }
 
--- the commands for the orders so far
 commands_made-within : (orders n state : ℕ) → IsWithin (commands_made orders n state).0 (7 * n)
 commands_made-within orders zero state = record { orders = All-nil DropsSomeOrder; weights = omega arith }
 commands_made-within orders (suc n) state =
@@ -139,7 +128,6 @@ commands_made-within orders (suc n) state =
     (commands_made-within orders n state) last in
     record { orders = all.orders; weights = omega (arith, all.weights) }
 
--- all commands
 with_sum : (orders state : ℕ)
     → IsWithin ((commands_made orders orders state).0 ++ Sum everything ∷ []) (7 * orders + 0)
 with_sum orders state =

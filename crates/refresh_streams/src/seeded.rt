@@ -11,12 +11,7 @@ use cubit_base::{Command, Key, Predicate, Table};
 use std::alloc::Global;
 
 /// The base table of so many orders, 1 to 100,000, and a script over it, all drawn from the seed.
-#[tactic(auto, using(
-    crate::proofs::MadeInput::orders_made_distinct,
-    crate::proofs::MadeInput::orders_made_live,
-    crate::proofs::MadeInput::commands_made_orders,
-    crate::proofs::MadeInput::commands_made_weights,
-))]
+#[tactic(auto, using(crate::proofs::MadeInput::orders_made_distinct, crate::proofs::MadeInput::orders_made_live, crate::proofs::MadeInput::commands_made_orders, crate::proofs::MadeInput::commands_made_weights))]
 pub fn make(alloc: Global, seed: u32, orders: u32) -> Result<(Table, Script), Memory>
     requires { (1 ≤ orders) × (orders ≤ 100_000) }
 
