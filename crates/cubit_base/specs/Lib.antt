@@ -1,5 +1,6 @@
 pub mod Answer
 pub mod Change
+pub mod Command
 pub mod Day
 pub mod Delta
 pub mod History

@@ -1,6 +1,6 @@
 //! The rows of TPC-H's `lineitem` table as this product keeps them, what a query over them means, and how they change.
 //! A `Table` is a list of rows, each a `Key` and a `Tuple` or none. A `Predicate` selects tuples by a closed range for
-//! each column. A `Delta` changes one row, and a history is a list of them.
+//! each column. A `Delta` changes one row, and a history is a list of them. A `Command` is what a client asks for.
 //!
 //! # Proved
 //!
@@ -14,6 +14,7 @@
 //!   the definitions. `Predicate::q6`: the ranges of TPC-H's query 6. `Key` compares by order and then by line.
 //! - `day_of`: the number of a day from 1992-01-01 to 1998-12-31 on the calendar of `jiff_core`, and none of any other
 //!   three numbers. `date_of`: the day with a number. `Tuple::pack`, `Tuple::unpack`: a tuple's word, both ways.
+//! - `Command::weight`: how many deltas the command may place at most, by the definition.
 //! - `Steps` counts exactly what `tick` says, takes no bytes, and no program reads it.
 //! - `laws`: what follows for deltas, histories, rows, live rows, outcomes of changes, and words of tuples.
 //!
@@ -37,6 +38,7 @@
 //! ```
 #![tactic(auto)]
 
+mod command;
 mod date;
 mod delta;
 mod entry;
@@ -48,6 +50,7 @@ mod steps;
 mod table;
 mod tuple;
 
+pub use command::Command;
 pub use date::{date_of, day_of};
 pub use delta::{Delta, DeltaList};
 pub use entry::{Entry, Limits};

@@ -8,9 +8,11 @@ pub mod FirstRepeat
 pub mod Keys
 pub mod LineByLine
 pub mod MaskedRuns
+pub mod Orders
 pub mod RisingKeys
 pub mod SortedEntries
 pub mod SortedKeys
 pub mod TakenFields
 pub mod TakenLine
 pub mod TakenTail
+pub mod Words

@@ -1,4 +1,5 @@
 pub mod Base
+pub mod DeleteFile
 pub mod Field
 pub mod Fields
 pub mod FirstRow
@@ -8,4 +9,5 @@ pub mod Lines
 pub mod ReadRows
 pub mod Reading
 pub mod Repeats
+pub mod Values
 pub mod Wide

@@ -10,6 +10,10 @@
 //!   memory says nothing of the file. At most `row_limit` rows (`within`), and no key twice (`distinct`).
 //! - `line_of`: the key and the tuple of a line, or its first fault: the number of fields, and then from left to right.
 //!   `LineFault::number`: the number of that fault in docs/FORMATS.md.
+//! - `tuple_fields`: the tuple of seven values, or the first fault from left to right (`value`), which is one of theirs
+//!   (`fault`).
+//! - `delete_keys_of`: the keys of all lines in their order, or the first bad line. A want of memory says nothing of
+//!   the file.
 //! - `first_line`: none exactly where there are no bytes (`none`); the length of the line (`len`), where the next one
 //!   begins (`next`), both within the bytes (`within`); the lines are this one and those from there on (`lines`).
 //! - `integer_of`, `money_of`, `quantity_of`, `date_field` (`value`): what the field says, and nothing where it is
@@ -17,7 +21,8 @@
 //!
 //! # Only tested
 //!
-//! - That `base_of` finds memory where there is some, also for more than a megabyte and where keys do not rise.
+//! - That `delete_keys_of` finds memory where there is some, and `base_of` also for more than a megabyte and where keys
+//!   do not rise.
 //! - That the fast reader takes the spellings of TPC-H's generator; what it takes is proved to be the line's value.
 //!
 //! # Not said
@@ -38,14 +43,18 @@
 
 mod base;
 mod careful;
+mod deletes;
 mod fast;
 mod field;
 mod line;
 mod lines;
+mod values;
 
 pub use base::{BaseFault, base_of};
 pub use careful::line_of;
+pub use deletes::{KeyFault, delete_keys_of};
 pub use field::{date_field, integer_of, money_of, quantity_of};
 pub use line::LineFault;
 pub use lines::{Line, first_line};
 pub use std::alloc::AllocError as Memory;
+pub use values::tuple_fields;
