@@ -12,6 +12,7 @@ pub(crate) struct Generator {
 }
 
 const MULTIPLIER: u64 = 6_364_136_223_846_793_005;
+
 const INCREMENT: u64 = 1_442_695_040_888_963_407;
 
 impl Generator {

@@ -78,7 +78,10 @@ mod tests {
         script.push(Command::DropOrder(4_294_967_295))?;
         script.push(Command::Merge)?;
         assert_eq!(rt; script.len(), 2);
-        assert_eq!(rt; script.get(0).copied(), Some(Command::DropOrder(4_294_967_295)));
+        assert_eq!(rt;
+            script.get(0).copied(),
+            Some(Command::DropOrder(4_294_967_295))
+        );
         assert_eq!(rt; script.get(2).copied(), None);
         Ok(())
     }

@@ -184,7 +184,12 @@ fn fields_value(fields: Fields<'_>) -> Result<(Key, Tuple), LineFault>
 }
 
 /// The number, where there is one and it lies from `low` to `high`; else the fault.
-pub(crate) fn within(low: u64, high: u64, number: Option<u64>, fault: LineFault) -> Result<u64, LineFault>
+pub(crate) fn within(
+    low: u64,
+    high: u64,
+    number: Option<u64>,
+    fault: LineFault,
+) -> Result<u64, LineFault>
     ensures value { result ≡ within low high number fault }
     ensures range { IfOk result (λ n. (low ≤ n) × (n ≤ high)) }
 {

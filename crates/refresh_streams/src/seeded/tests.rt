@@ -51,7 +51,11 @@ fn the_commands_of_three_orders(rt: HostRuntime) -> Result<(), Fail> {
         Command::Sum(everything()),
     ];
     for n in 0..4 {
-        assert_eq!(rt; script.get(n).copied(), Some(commands[n as usize]), "command {n}");
+        assert_eq!(rt;
+            script.get(n).copied(),
+            Some(commands[n as usize]),
+            "command {n}"
+        );
     }
     assert!(rt; script.get(4).is_none());
     Ok(())

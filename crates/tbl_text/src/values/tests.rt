@@ -25,9 +25,15 @@ fn seven_values_give_their_tuple(rt: HostRuntime) {
 #[test]
 fn the_first_bad_value_decides(rt: HostRuntime) {
     let cases: [(&[u8], LineFault); 10] = [
-        (b"51 1000000.00 0.11 0.09 X X 1991-12-31", LineFault::Quantity),
+        (
+            b"51 1000000.00 0.11 0.09 X X 1991-12-31",
+            LineFault::Quantity,
+        ),
         (b"50 1000000.00 0.11 0.09 X X 1991-12-31", LineFault::Price),
-        (b"50 999999.99 0.11 0.09 X X 1991-12-31", LineFault::Discount),
+        (
+            b"50 999999.99 0.11 0.09 X X 1991-12-31",
+            LineFault::Discount,
+        ),
         (b"50 999999.99 0.1 0.09 X X 1991-12-31", LineFault::Tax),
         (b"50 999999.99 0.1 0.08 X X 1991-12-31", LineFault::Flag),
         (b"50 999999.99 0.1 0.08 A X 1991-12-31", LineFault::Status),

@@ -11,7 +11,7 @@ loop-before-preserved c =
     ap length c.in_ok-push.ensures.ok ∙ length_push _ _ in
     record {
       rows = rw (next, c.in_ok-push.ensures.ok, so_far.rows, append_assoc, c.tuple-tuple.ensures.value, so_far.state)
-      refl;
+          refl;
       state = rw (next, c.tuple-tuple.ensures.state, so_far.state) refl;
       count = omega (arith, so_far.count, grew);
     }
