@@ -1,4 +1,5 @@
 mod Climbing
+mod Dealing
 mod Groups
 mod Holding
 mod Keys

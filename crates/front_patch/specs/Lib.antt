@@ -4,6 +4,7 @@ pub mod PageAtFront
 pub mod Planned
 pub mod Changed
 pub mod Keys
+pub mod Digits
 pub mod ChangedRows
 pub mod Patch
 pub mod Taken

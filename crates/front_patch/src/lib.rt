@@ -26,7 +26,7 @@
 //! # Not said
 //!
 //! How long a call takes, and how much memory `take` needs: at most 20 bytes for each delta that it walks, twice, and 8
-//! for its place.
+//! for its place, twice.
 //!
 //! # Example
 //!
@@ -41,6 +41,7 @@
 mod bits;
 mod changed;
 mod claims;
+mod digits;
 pub mod laws;
 mod page;
 mod patches;
