@@ -1,4 +1,5 @@
 mod ages;
 mod compared;
 mod memory;
+mod order;
 mod plain;
