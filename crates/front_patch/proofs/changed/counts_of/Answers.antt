@@ -1,4 +1,4 @@
-use Rattle.std.proofs.Common.{◌≡◌, ◌+◌, ◌/◌, sym, ap, subst, arith, get_or}
+use Rattle.std.proofs.Common.{◌+◌, ◌/◌, sym, ap, subst, arith, get_or}
 use Rattle.front_patch.specs.declared.row_state.RowState.{RowState}
 use Rattle.front_patch.proofs.Counts.{AreCounted, counted-more}
 use Rattle.front_patch.proofs.changed.counts_of.Goals as goal

@@ -1,4 +1,4 @@
-use Rattle.std.proofs.Common.{◌≡◌, ◌+◌, ◌-◌, ◌≤◌, ◌<◌, ◌∙◌, List, length, sym, subst, ap, arith, take, drop}
+use Rattle.std.proofs.Common.{◌≡◌, ◌+◌, ◌-◌, ◌∙◌, List, sym, subst, ap, arith, take, drop}
 use Rattle.front_patch.specs.RowStates.{IsRising, last_state}
 use Rattle.front_patch.specs.declared.row_state.RowState.{RowState}
 use Rattle.front_patch.proofs.Rising.{counts-rise, last-among, rising-among}
