@@ -50,11 +50,11 @@ mod line;
 mod lines;
 mod values;
 
-pub use base::{BaseFault, base_of};
+pub use base::{BaseFault, base_of, first_row};
 pub use careful::line_of;
-pub use deletes::{KeyFault, delete_keys_of};
-pub use field::{date_field, integer_of, money_of, quantity_of};
+pub use deletes::{KeyFault, delete_keys_of, first_order};
+pub use field::{date_field, flag_of, integer_of, money_of, quantity_of, status_of};
 pub use line::LineFault;
 pub use lines::{Line, first_line};
 pub use std::alloc::AllocError as Memory;
-pub use values::tuple_fields;
+pub use values::{first_word, space_count, tuple_fields};
