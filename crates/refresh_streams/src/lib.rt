@@ -26,10 +26,18 @@
 //! ```
 #![tactic(auto)]
 
+mod file_name;
 mod generator;
+mod reader;
 mod script;
+mod script_line;
 mod seeded;
+mod stop;
+mod term;
 
+pub use file_name::FileName;
+pub use reader::script_of;
 pub use script::Script;
 pub use seeded::make;
 pub use std::alloc::AllocError as Memory;
+pub use stop::ScriptStop;

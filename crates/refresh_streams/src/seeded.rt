@@ -101,7 +101,7 @@ fn push_command(script: &mut Script, command: Command, order: u32) -> Result<(),
     Ok(())
 }
 
-fn everything() -> Predicate
+pub(crate) fn everything() -> Predicate
     ensures { result ≡ everything }
 {
     Predicate {

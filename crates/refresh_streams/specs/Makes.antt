@@ -1,0 +1,44 @@
+-- How the parts of a reading end.
+use Rattle.std.specs.Prelude.{◌≡◌, ◌⊎◌, ◌≤◌, ℕ, ◌+◌, All, List, [], ◌∷◌, length, Vec, Result, Ok, Err}
+use Rattle.cubit_io.specs.Count.{Rose}
+use Rattle.cubit_io.specs.Held.{Held, IsMissing}
+use Rattle.tbl_text.specs.Lines.{lines_of}
+use Rattle.refresh_streams.specs.Reading.{Contents, WhereTold, Bad, Step, Stops, line_steps, steps_of_bytes, Progress, after_steps, Meets}
+use Rattle.refresh_streams.specs.Script.{weights, DropsSomeOrder}
+use Rattle.refresh_streams.specs.declared.stop.ScriptStop.{ScriptStop}
+use Rattle.refresh_streams.specs.declared.stop.ScriptStop.TheVariants as stop
+
+-- a file was read whole, or is in the way
+abbrev pub Opened : {A : Type 0} → Held → ℕ → ℕ → List ℕ → Result (Vec ℕ A) ScriptStop → Type 0
+Opened held faults faults' name (Ok bytes) =
+    WhereTold held (λ contents. (says : ℕ → List ℕ → List Step)
+      → steps_of_bytes name says (contents name) ≡ line_steps says 1 (lines_of bytes.items))
+Opened held faults faults' name (Err (stop.Fault file)) = (file ≡ name) × (IsMissing held name ⊎ Rose faults faults')
+Opened held faults faults' name (Err (stop.Bad file n fault fields)) =
+    WhereTold held (λ contents. (says : ℕ → List ℕ → List Step)
+      → steps_of_bytes name says (contents name) ≡ Stops (Bad file n fault fields) ∷ [])
+Opened held faults faults' name (Err stop.Memory) = Unit {0}
+
+-- a call makes these steps, which depend on what the files hold
+abbrev pub Makes : {A : Type 0} → Held → ℕ → ℕ → (Contents → List Step) → Progress → Progress → Result A ScriptStop
+    → Type 0
+Makes held faults faults' steps p now (Ok done) = WhereTold held (λ contents. after_steps (steps contents) p ≡ Ok now)
+Makes held faults faults' steps p now (Err (stop.Fault file)) =
+    (IsMissing held file ⊎ Rose faults faults') × WhereTold held (λ contents. Meets (steps contents) p file)
+Makes held faults faults' steps p now (Err (stop.Bad file n fault fields)) =
+    WhereTold held (λ contents. after_steps (steps contents) p ≡ Err (Bad file n fault fields))
+Makes held faults faults' steps p now (Err stop.Memory) = Unit {0}
+
+-- a call makes these steps, and reads no file
+abbrev pub MakesAlone : {A : Type 0} → List Step → Progress → Progress → Result A ScriptStop → Type 0
+MakesAlone steps p now (Ok done) = after_steps steps p ≡ Ok now
+MakesAlone steps p now (Err (stop.Fault file)) = ⊥
+MakesAlone steps p now (Err (stop.Bad file n fault fields)) = after_steps steps p ≡ Err (Bad file n fault fields)
+MakesAlone steps p now (Err stop.Memory) = Unit {0}
+
+-- what holds of each reading, also where it is not told what the files hold: the weights stay within the room, each
+-- order that is dropped is at least 1, and there are no more commands than lines of the script and weight that was left
+pub record GoesOn (lines : ℕ) (p now : Progress) : Type 0 where
+  pub weights : weights now.commands + now.left ≡ weights p.commands + p.left
+  pub orders : All DropsSomeOrder p.commands → All DropsSomeOrder now.commands
+  pub few : length now.commands + now.left ≤ length p.commands + p.left + lines

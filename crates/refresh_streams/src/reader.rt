@@ -1,0 +1,261 @@
+//! Scripts, and the refresh files that they name.
+ghost use Rattle.std.specs.Prelude.{◌≡◌, ◌≢◌, ◌≤◌, ◌<◌, ◌+◌, ◌-◌, [], ◌∷◌, All, length, IfOk, OnOk};
+ghost use Rattle.cubit_base.specs.Command.{weight_of};
+ghost use Rattle.cubit_io.specs.declared.whole.TheConstants.{FILE_LIMIT};
+ghost use Rattle.tbl_text.specs.Lines.{lines_of};
+ghost use Rattle.refresh_streams.specs.Script.{weights, DropsSomeOrder};
+ghost use Rattle.refresh_streams.specs.Reading.{Asks, line_steps, field_number, insert_says, delete_says, script_says, steps_of_file, Reads};
+ghost use Rattle.refresh_streams.specs.Makes.{Makes, MakesAlone, GoesOn, Opened};
+
+use crate::script_line::{Asked, line_asks};
+use crate::stop::{bad, fault};
+use crate::{Script, ScriptStop};
+use cubit_base::Command;
+use cubit_io::{Files, ReadStop, read_all};
+use std::alloc::Global;
+use std::marker::Model;
+use tbl_text::{LineFault, first_line, first_order, first_row};
+
+/// The script of this name, with the commands of the refresh files that it names, each read where its line is met. The
+/// weights of its commands are at most `room`, which is at most 4,194,304.
+pub fn script_of<F: Files>(
+    alloc: Global,
+    files: &mut F,
+    name: &str,
+    room: u32,
+) -> Result<Script, ScriptStop>
+    requires { room ≤ 4_194_304 }
+
+    ensures value { Reads (F.held files.old) (F.faults files.old) (F.faults files.new) name.now room result }
+
+    // Also where it is not told what the files hold.
+    ensures weights { IfOk result (λ script. weights script ≤ room) }
+    ensures orders { IfOk result (λ script. All DropsSomeOrder script) }
+
+    ensures held { F.held files.new ≡ F.held files.old }
+    ensures counted { F.faults files.old ≤ F.faults files.new }
+{
+    let bytes = read_file(alloc, files, name)?;
+    let mut reading = Reading {
+        script: Script::new(alloc),
+        left: room,
+    };
+    reading.add_script(alloc, files, name, &bytes)?;
+    Ok(reading.script)
+}
+
+// All bytes of the file of this name.
+fn read_file<F: Files>(
+    alloc: Global,
+    files: &mut F,
+    name: &str,
+) -> Result<Vec<u8>, ScriptStop>
+    ensures value { Opened (F.held files.old) (F.faults files.old) (F.faults files.new) name.now result }
+    ensures within { IfOk result (λ bytes. length bytes.items ≤ FILE_LIMIT) }
+    ensures held { F.held files.new ≡ F.held files.old }
+    ensures counted { F.faults files.old ≤ F.faults files.new }
+{
+    match read_all(alloc, files, name) {
+        Ok(bytes) => Ok(bytes),
+        Err(ReadStop::Fault) => Err(fault(alloc, name)),
+        Err(ReadStop::TooLong) => Err(bad(alloc, name, 0, 16, 0)),
+        Err(ReadStop::Memory) => Err(ScriptStop::Memory),
+    }
+}
+
+// The number of fields, where that is what is wrong.
+fn field_number(fault: LineFault) -> u32
+    ensures { result ≡ field_number fault }
+{
+    match fault {
+        LineFault::FieldCount(count) => count,
+        _ => 0,
+    }
+}
+
+// What reading has come to: the commands so far, and the weight that is left for others.
+#[derive(Drop)]
+struct Reading {
+    script: Script,
+    left: u32,
+}
+
+impl Model for Reading {
+    ghost use Rattle.refresh_streams.specs.Reading.{Progress};
+
+    ghost Value = { Progress };
+
+    ghost view = { λ r. record { commands = r.script; left = r.left } };
+}
+
+impl Reading {
+    // The command that a line of a file asks for.
+    fn add(
+        &mut self,
+        alloc: Global,
+        file: &str,
+        line: u32,
+        command: Command,
+    ) -> Result<(), ScriptStop>
+        requires few { length self.old.commands < u32.MAX }
+        requires order { DropsSomeOrder command }
+        ensures value { MakesAlone (Asks file.now line command ∷ []) self.old self.new result }
+        ensures goes_on { OnOk result (GoesOn (1 - weight_of command) self.old self.new) }
+    {
+        let weight = command.weight();
+        if weight > self.left {
+            return Err(bad(alloc, file, line, 17, 0));
+        }
+        self.script.push(command)?;
+        self.left -= weight;
+        Ok(())
+    }
+
+    // The inserts of a `lineitem` file.
+    fn add_rows(&mut self, alloc: Global, name: &str, bytes: &[u8]) -> Result<(), ScriptStop>
+        requires bytes { length bytes.now ≤ FILE_LIMIT }
+        requires few { length self.old.commands + self.old.left < u32.MAX }
+        ensures value { MakesAlone (line_steps (insert_says name.now) 1 (lines_of bytes.now)) self.old self.new result }
+        ensures goes_on { OnOk result (GoesOn 0 self.old self.new) }
+    {
+        let mut rest = bytes;
+        let mut number = 1;
+        while !rest.is_empty() {
+            match first_row(rest) {
+                Ok((key, tuple, others)) => {
+                    self.add(alloc, name, number, Command::Insert(key, tuple))?;
+                    rest = others;
+                }
+                Err(fault) => {
+                    let fields = field_number(fault);
+                    return Err(bad(alloc, name, number, fault.number(), fields));
+                }
+            }
+            number += 1;
+        }
+        Ok(())
+    }
+
+    // The drops of a file of deletes.
+    fn add_drops(&mut self, alloc: Global, name: &str, bytes: &[u8]) -> Result<(), ScriptStop>
+        requires bytes { length bytes.now ≤ FILE_LIMIT }
+        requires few { length self.old.commands + self.old.left < u32.MAX }
+        ensures value { MakesAlone (line_steps (delete_says name.now) 1 (lines_of bytes.now)) self.old self.new result }
+        ensures goes_on { OnOk result (GoesOn 0 self.old self.new) }
+    {
+        let mut rest = bytes;
+        let mut number = 1;
+        while !rest.is_empty() {
+            let (order, others) = first_order(rest);
+            match order {
+                Some(order) => self.add(alloc, name, number, Command::DropOrder(order))?,
+                None => return Err(bad(alloc, name, number, 15, 0)),
+            }
+            rest = others;
+            number += 1;
+        }
+        Ok(())
+    }
+
+    // The inserts of the `lineitem` file of this name.
+    fn add_insert_file<F: Files>(
+        &mut self,
+        alloc: Global,
+        files: &mut F,
+        name: &str,
+    ) -> Result<(), ScriptStop>
+        requires few { length self.old.commands + self.old.left < u32.MAX }
+        ensures value { Makes (F.held files.old) (F.faults files.old) (F.faults files.new)
+            (λ contents. steps_of_file contents name.now (insert_says name.now)) self.old self.new result }
+        ensures goes_on { OnOk result (GoesOn 0 self.old self.new) }
+        ensures held { F.held files.new ≡ F.held files.old }
+        ensures counted { F.faults files.old ≤ F.faults files.new }
+    {
+        let bytes = read_file(alloc, files, name)?;
+        self.add_rows(alloc, name, &bytes)
+    }
+
+    // The drops of the file of deletes of this name.
+    fn add_delete_file<F: Files>(
+        &mut self,
+        alloc: Global,
+        files: &mut F,
+        name: &str,
+    ) -> Result<(), ScriptStop>
+        requires few { length self.old.commands + self.old.left < u32.MAX }
+        ensures value { Makes (F.held files.old) (F.faults files.old) (F.faults files.new)
+            (λ contents. steps_of_file contents name.now (delete_says name.now)) self.old self.new result }
+        ensures goes_on { OnOk result (GoesOn 0 self.old self.new) }
+        ensures held { F.held files.new ≡ F.held files.old }
+        ensures counted { F.faults files.old ≤ F.faults files.new }
+    {
+        let bytes = read_file(alloc, files, name)?;
+        self.add_drops(alloc, name, &bytes)
+    }
+
+    // What a line of the script asks for.
+    fn add_line<F: Files>(
+        &mut self,
+        alloc: Global,
+        files: &mut F,
+        name: &str,
+        number: u32,
+        line: &[u8],
+    ) -> Result<(), ScriptStop>
+        requires line { length line.now ≤ u32.MAX }
+        requires few { length self.old.commands + self.old.left < u32.MAX }
+        ensures value { Makes (F.held files.old) (F.faults files.old) (F.faults files.new)
+            (λ contents. script_says contents name.now number line.now) self.old self.new result }
+        ensures goes_on { OnOk result (GoesOn 1 self.old self.new) }
+        ensures held { F.held files.new ≡ F.held files.old }
+        ensures counted { F.faults files.old ≤ F.faults files.new }
+    {
+        match line_asks(line) {
+            Ok(Asked::Nothing) => Ok(()),
+            Ok(Asked::One(command)) => self.add(alloc, name, number, command),
+            Ok(Asked::Inserts(file)) => self.add_insert_file(alloc, files, file),
+            Ok(Asked::Deletes(file)) => self.add_delete_file(alloc, files, file),
+            Err(fault) => Err(bad(alloc, name, number, fault, 0)),
+        }
+    }
+
+    // What the lines of the script ask for.
+    fn add_script<F: Files>(
+        &mut self,
+        alloc: Global,
+        files: &mut F,
+        name: &str,
+        bytes: &[u8],
+    ) -> Result<(), ScriptStop>
+        requires bytes { length bytes.now ≤ FILE_LIMIT }
+        requires few { length self.old.commands + self.old.left ≤ 4_194_304 }
+        ensures value { Makes (F.held files.old) (F.faults files.old) (F.faults files.new)
+            (λ contents. line_steps (script_says contents name.now) 1 (lines_of bytes.now)) self.old self.new result }
+        ensures goes_on { OnOk result (GoesOn (length bytes.now) self.old self.new) }
+        ensures held { F.held files.new ≡ F.held files.old }
+        ensures counted { F.faults files.old ≤ F.faults files.new }
+    {
+        let mut rest = bytes;
+        let mut number = 1;
+        while !rest.is_empty() {
+            let (line, others) = split_line(rest);
+            self.add_line(alloc, files, name, number, line)?;
+            rest = others;
+            number += 1;
+        }
+        Ok(())
+    }
+}
+
+// The first line without its line end, and what follows it.
+fn split_line(bytes: &[u8]) -> (&[u8], &[u8])
+    requires { bytes.now ≢ [] }
+    ensures lines { lines_of bytes.now ≡ result.0.now ∷ lines_of result.1.now }
+    ensures shorter { length result.1.now < length bytes.now }
+    ensures within { length result.0.now ≤ length bytes.now }
+{
+    let Some(line) = first_line(bytes) else {
+        unreachable!()
+    };
+    (&bytes[..line.len], &bytes[line.next..])
+}
