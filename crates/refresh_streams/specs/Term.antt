@@ -1,5 +1,5 @@
 -- Terms of a query: COLUMN=VALUE, or COLUMN=LOW..HIGH with both ends included.
-use Rattle.std.specs.Prelude.{ℕ, ◌+◌, ◌==◌, Bool, ◌&&◌, nat_le, List, [], ◌∷◌, take, drop, position, codes, bytes_eq, Option, Some, None, option_map, if◌then◌else◌}
+use Rattle.std.specs.Prelude.{ℕ, ◌+◌, ◌==◌, Bool, false, ◌&&◌, nat_le, List, [], ◌∷◌, take, drop, position, codes, bytes_eq, Option, Some, None, option_map, if◌then◌else◌}
 use Rattle.cubit_base.specs.Tuple.{flag_number, status_number}
 use Rattle.cubit_base.specs.declared.predicate.Predicate.{Predicate}
 use Rattle.cubit_base.specs.declared.predicate.Range.{Range}
@@ -30,13 +30,17 @@ number_of Qty value = number_within 1 50 (quantity_value value)
 number_of Flag value = option_map flag_number (flag_value value)
 number_of Status value = option_map status_number (status_value value)
 
+-- two points stand in front
+abbrev pub begins_with_points : List ℕ → Bool
+begins_with_points (b ∷ c ∷ bytes) = (b == 46) && (c == 46)
+begins_with_points bytes = false
+
 -- what stands before the first two points, and what stands behind them, where they come
 abbrev pub cut_at_points : List ℕ → List ℕ × Option (List ℕ)
 cut_at_points [] = ([], None)
-cut_at_points (b ∷ []) = (b ∷ [], None)
-cut_at_points (b ∷ c ∷ bytes) =
-    if (b == 46) && (c == 46) then ([], Some bytes)
-    else (b ∷ (cut_at_points (c ∷ bytes)).0, (cut_at_points (c ∷ bytes)).1)
+cut_at_points (b ∷ bytes) =
+    if begins_with_points (b ∷ bytes) then ([], Some (drop 1 bytes))
+    else (b ∷ (cut_at_points bytes).0, (cut_at_points bytes).1)
 
 -- the low end and the high end; a flag and a status have no ranges
 abbrev pub ends_of : Column → List ℕ → List ℕ × Option (List ℕ)

@@ -119,8 +119,9 @@ impl Reading {
         ensures goes_on { OnOk result (GoesOn 0 self.old self.new) }
     {
         let mut rest = bytes;
-        let mut number = 1;
+        let mut number = 0;
         while !rest.is_empty() {
+            number += 1;
             match first_row(rest) {
                 Ok((key, tuple, others)) => {
                     self.add(alloc, name, number, Command::Insert(key, tuple))?;
@@ -131,7 +132,6 @@ impl Reading {
                     return Err(bad(alloc, name, number, fault.number(), fields));
                 }
             }
-            number += 1;
         }
         Ok(())
     }
@@ -144,15 +144,15 @@ impl Reading {
         ensures goes_on { OnOk result (GoesOn 0 self.old self.new) }
     {
         let mut rest = bytes;
-        let mut number = 1;
+        let mut number = 0;
         while !rest.is_empty() {
+            number += 1;
             let (order, others) = first_order(rest);
             match order {
                 Some(order) => self.add(alloc, name, number, Command::DropOrder(order))?,
                 None => return Err(bad(alloc, name, number, 15, 0)),
             }
             rest = others;
-            number += 1;
         }
         Ok(())
     }
@@ -236,12 +236,12 @@ impl Reading {
         ensures counted { F.faults files.old ≤ F.faults files.new }
     {
         let mut rest = bytes;
-        let mut number = 1;
+        let mut number = 0;
         while !rest.is_empty() {
+            number += 1;
             let (line, others) = split_line(rest);
             self.add_line(alloc, files, name, number, line)?;
             rest = others;
-            number += 1;
         }
         Ok(())
     }
@@ -259,3 +259,6 @@ fn split_line(bytes: &[u8]) -> (&[u8], &[u8])
     };
     (&bytes[..line.len], &bytes[line.next..])
 }
+
+#[cfg(test)]
+mod tests;

@@ -101,6 +101,7 @@ fn push_command(script: &mut Script, command: Command, order: u32) -> Result<(),
     Ok(())
 }
 
+/// All rows match.
 pub(crate) fn everything() -> Predicate
     ensures { result ≡ everything }
 {

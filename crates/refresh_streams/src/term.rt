@@ -1,8 +1,9 @@
 //! The terms of a query.
 ghost use Rattle.std.specs.Prelude.{◌≡◌, ◌≤◌, length, option_map, position};
+ghost use Rattle.std.specs.Bool.{OnTrue};
 ghost use Rattle.tbl_text.specs.Values.{words_of};
 ghost use Rattle.refresh_streams.specs.Generator.{everything};
-ghost use Rattle.refresh_streams.specs.Term.{column_named, number_within, number_of, cut_at_points, ends_of, range_of, range_at, restricted, is_equals, with_term, predicate_of};
+ghost use Rattle.refresh_streams.specs.Term.{column_named, number_within, number_of, begins_with_points, cut_at_points, ends_of, range_of, range_at, restricted, is_equals, with_term, predicate_of};
 
 use crate::seeded::everything;
 use cubit_base::{Predicate, Range};
@@ -30,7 +31,7 @@ pub(crate) fn predicate_of(terms: &[u8]) -> Option<Predicate>
 {
     let mut predicate = everything();
     let mut rest = terms;
-    for _ in 0..space_count(terms) {
+    for _word in 0..space_count(terms) {
         let (term, others) = first_word(rest);
         predicate = with_term(predicate, term)?;
         rest = others;
@@ -123,12 +124,22 @@ fn ends_of(column: Column, text: &[u8]) -> (&[u8], Option<&[u8]>)
 fn cut_at_points(text: &[u8]) -> (&[u8], Option<&[u8]>)
     ensures { (result.0.now, option_map (λ high. high.now) result.1) ≡ cut_at_points text.now }
 {
-    for at in 1..text.len() {
-        if text[at - 1] == b'.' && text[at] == b'.' {
-            return (&text[..at - 1], Some(&text[at + 1..]));
+    for at in 0..text.len() {
+        if begins_with_points(&text[at..]) {
+            return (&text[..at], Some(&text[at + 2..]));
         }
     }
     (text, None)
+}
+
+fn begins_with_points(text: &[u8]) -> bool
+    ensures value { result ≡ begins_with_points text.now }
+    ensures two { OnTrue result (2 ≤ length text.now) }
+{
+    match text {
+        [b'.', b'.', ..] => true,
+        _ => false,
+    }
 }
 
 // The number by which a range selects a column's value.

@@ -1,5 +1,5 @@
 //! The values of a tuple in a command, with one space between each two.
-ghost use Rattle.std.specs.Prelude.{◌≡◌, ◌+◌, ◌<◌, ◌≤◌, ◌∷◌, length, count_by, IfErr};
+ghost use Rattle.std.specs.Prelude.{◌≡◌, ◌+◌, ◌<◌, ◌≤◌, ◌∷◌, ◌++◌, length, count_by, IfErr};
 ghost use Rattle.std.specs.List.{position_or_len};
 ghost use Rattle.tbl_text.specs.Line.{fault_number};
 ghost use Rattle.tbl_text.specs.Values.{is_space, words_of, tuple_value, listed_values};
@@ -67,6 +67,7 @@ pub fn space_count(bytes: &[u8]) -> u32
 /// The first of two words or more, and what follows its space.
 pub fn first_word(bytes: &[u8]) -> (&[u8], &[u8])
     requires { 1 ≤ count_by is_space bytes.now }
+    ensures cut { bytes.now ≡ result.0.now ++ 32 ∷ result.1.now }
     ensures words { words_of bytes.now ≡ result.0.now ∷ words_of result.1.now }
     ensures spaces { count_by is_space bytes.now ≡ 1 + count_by is_space result.1.now }
 {

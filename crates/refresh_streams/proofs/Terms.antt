@@ -1,0 +1,40 @@
+-- Terms, one after another, and the two points in one of them.
+use Rattle.std.proofs.Common.{◌≡◌, ◌∙◌, ℕ, zero, suc, ◌+◌, ◌<◌, true, false, List, [], ◌∷◌, ◌++◌, length, take, drop, Option, Some, None, refl, ap, arith}
+use Rattle.cubit_base.specs.declared.predicate.Predicate.{Predicate}
+use Rattle.cubit_base.specs.declared.predicate.Range.{Range}
+use Rattle.refresh_streams.specs.Term.{begins_with_points, cut_at_points, with_range, with_terms}
+use Rattle.refresh_streams.specs.declared.term.Column.{Column}
+
+-- after a bad term there is no predicate
+pub with_terms-none : (terms : List (List ℕ)) → with_terms None terms ≡ None
+with_terms-none [] = refl
+with_terms-none (term ∷ terms) = refl
+
+-- nor with a bad range
+pub with_range-none : (p : Predicate) (column : Column) (before : Option Range)
+    → with_range p column before None ≡ None
+with_range-none p column None = refl
+with_range-none p column (Some range) = refl
+
+-- two points at a place cut there
+pub cut-here : (text : List ℕ) (at : ℕ) → begins_with_points (drop at text) ≡ true
+    → cut_at_points (drop at text) ≡ ([], Some (drop (at + 2) text))
+cut-here [] at points = absurd (no at points)
+  where
+    no : (at : ℕ) → begins_with_points (drop at []) ≡ true → ⊥
+    no zero ()
+    no (suc at) ()
+cut-here (b ∷ text) zero points = rw points refl
+cut-here (b ∷ text) (suc at) points =
+    let next : suc at + 2 ≡ suc (at + 2) = omega arith in
+    rw next (cut-here text at points)
+
+-- a place without two points is passed
+pub cut-later : (text : List ℕ) (at : ℕ) → at < length text → begins_with_points (drop at text) ≡ false
+    → (take at text ++ (cut_at_points (drop at text)).0, (cut_at_points (drop at text)).1)
+    ≡ (take (at + 1) text ++ (cut_at_points (drop (at + 1) text)).0, (cut_at_points (drop (at + 1) text)).1)
+cut-later [] at below none = absurd (omega (arith, below))
+cut-later (b ∷ text) zero below none = rw none refl
+cut-later (b ∷ text) (suc at) below none =
+    let next : suc at + 1 ≡ suc (at + 1) = omega arith in
+    rw next (ap (λ cut. (b ∷ cut.0, cut.1)) (cut-later text at (omega (arith, below)) none))

@@ -1,0 +1,61 @@
+-- The words of a line, by how many there are.
+use Rattle.std.proofs.Common.{◌≡◌, ◌≢◌, ◌∙◌, ℕ, suc, ◌+◌, ◌<◌, ◌≤◌, List, [], ◌∷◌, ◌++◌, length, drop, count_by, refl, sym, ap, ne_eqb, eq-eqb, arith}
+use Rattle.std.specs.List.{join_with_byte}
+use Rattle.std.proofs.lemmas.List.Splits.{length-slice_split, join_with_byte-slice_split}
+use Rattle.tbl_text.specs.Values.{is_space, words_of}
+use Rattle.refresh_streams.specs.ScriptLine.{malformed, numbered, row_value, row_of, key_of, order_of, q6_of, merge_of}
+
+-- one more than spaces
+pub length-words_of : (bytes : List ℕ) → length (words_of bytes) ≡ count_by is_space bytes + 1
+length-words_of bytes = length-slice_split is_space bytes
+
+only : (words : List (List ℕ)) (bytes : List ℕ) → join_with_byte 32 words ≡ bytes → length words ≡ 1
+    → words ≡ bytes ∷ []
+only [] bytes joined one = absurd (omega (arith, one))
+only (word ∷ []) bytes joined one = ap (λ w. w ∷ []) joined
+only (word ∷ next ∷ words) bytes joined one = absurd (omega (arith, one))
+
+-- where there is no space, all is one word
+pub words_of-one : (bytes : List ℕ) → count_by is_space bytes ≡ 0 → words_of bytes ≡ bytes ∷ []
+words_of-one bytes none =
+    only (words_of bytes) bytes (join_with_byte-slice_split 32 bytes) (omega (arith, none, length-words_of bytes))
+
+-- what stands behind the first word and its space
+pub behind-word : (word rest : List ℕ) → drop (length word + 1) (word ++ 32 ∷ rest) ≡ rest
+behind-word [] rest = refl
+behind-word (b ∷ word) rest =
+    let next : suc (length word) + 1 ≡ suc (length word + 1) = omega arith in
+    rw next (behind-word word rest)
+
+-- lines of the wrong number of words
+pub row_of-wrong : (fields : List (List ℕ)) → length fields ≢ 9 → row_of fields ≡ malformed
+row_of-wrong [] wrong = refl
+row_of-wrong (order ∷ []) wrong = refl
+row_of-wrong (order ∷ line ∷ values) wrong =
+    rw (ne_eqb (length values) 7 (λ seven. wrong (omega (arith, seven)))) refl
+
+pub row_of-right : (fields values : List (List ℕ)) (order line : List ℕ) → fields ≡ order ∷ line ∷ values
+    → length values ≡ 7 → row_of fields ≡ numbered (row_value order line values)
+row_of-right fields values order line is seven = rw (is, eq-eqb (length values) 7 seven) refl
+
+pub key_of-wrong : (fields : List (List ℕ)) → length fields ≢ 2 → key_of fields ≡ malformed
+key_of-wrong [] wrong = refl
+key_of-wrong (order ∷ []) wrong = refl
+key_of-wrong (order ∷ line ∷ []) wrong = absurd (wrong refl)
+key_of-wrong (order ∷ line ∷ more ∷ fields) wrong = refl
+
+pub order_of-wrong : (fields : List (List ℕ)) → length fields ≢ 1 → order_of fields ≡ malformed
+order_of-wrong [] wrong = refl
+order_of-wrong (order ∷ []) wrong = absurd (wrong refl)
+order_of-wrong (order ∷ more ∷ fields) wrong = refl
+
+pub q6_of-wrong : (fields : List (List ℕ)) → length fields ≢ 3 → q6_of fields ≡ malformed
+q6_of-wrong [] wrong = refl
+q6_of-wrong (year ∷ []) wrong = refl
+q6_of-wrong (year ∷ disc ∷ []) wrong = refl
+q6_of-wrong (year ∷ disc ∷ qty ∷ []) wrong = absurd (wrong refl)
+q6_of-wrong (year ∷ disc ∷ qty ∷ more ∷ fields) wrong = refl
+
+pub merge_of-some : (fields : List (List ℕ)) → 1 ≤ length fields → merge_of fields ≡ malformed
+merge_of-some [] some = absurd (omega (arith, some))
+merge_of-some (field ∷ fields) some = refl
