@@ -11,7 +11,7 @@ use Rattle.refresh_streams.proofs.Steps.{Reached-start, Reached-stop, Reached-en
 module _ {A B : Type 0} where
   -- a part that stops stops the whole
   pub MakesAlone-stop : (steps xs rest : List Step) (p now next next' : Progress) (e : ScriptStop)
-      → Reached steps (xs ++ rest) p now → MakesAlone {A} xs now next (Err e) → MakesAlone {B} steps p next' (Err e)
+      → Reached steps (xs ++ rest) p now → MakesAlone {A = A} xs now next (Err e) → MakesAlone {A = B} steps p next' (Err e)
   MakesAlone-stop steps xs rest p now next next' (stop.Fault file) reached makes = makes
   MakesAlone-stop steps xs rest p now next next' (stop.Bad file n fault fields) reached makes =
       Reached-stop steps xs rest p now (Bad file n fault fields) reached makes
@@ -21,7 +21,7 @@ module _ {A B : Type 0} where
   pub Makes-stop : (held held' : Held) (f f' f'' : ℕ) (steps xs rest : Contents → List Step)
       (p now next next' : Progress) (e : ScriptStop) → held' ≡ held → f ≤ f'
       → WhereTold held (λ contents. Reached (steps contents) (xs contents ++ rest contents) p now)
-      → Makes {A} held' f' f'' xs now next (Err e) → Makes {B} held f f'' steps p next' (Err e)
+      → Makes {A = A} held' f' f'' xs now next (Err e) → Makes {A = B} held f f'' steps p next' (Err e)
   Makes-stop held held' f f' f'' steps xs rest p now next next' (stop.Fault file) stays counted reached makes = (
     elim makes.0 [
       | inl missing ↦ inl (subst (λ h. IsMissing h file) stays missing)
@@ -40,11 +40,11 @@ module _ {A : Type 0} where
   -- a line that is bad stops the whole
   pub MakesAlone-bad : (steps rest : List Step) (p now next : Progress) (file : List ℕ) (n fault fields : ℕ)
       (e : ScriptStop) → Reached steps (Stops (Bad file n fault fields) ∷ rest) p now
-      → (e ≡ stop.Bad file n fault fields) ⊎ (e ≡ stop.Memory) → MakesAlone {A} steps p next (Err e)
+      → (e ≡ stop.Bad file n fault fields) ⊎ (e ≡ stop.Memory) → MakesAlone {A = A} steps p next (Err e)
   MakesAlone-bad steps rest p now next file n fault fields e reached is = elim is [
-    | inl bad ↦ subst (λ x. MakesAlone {A} steps p next (Err x)) (sym bad)
+    | inl bad ↦ subst (λ x. MakesAlone {A = A} steps p next (Err x)) (sym bad)
       (Reached-stop steps (Stops (Bad file n fault fields) ∷ []) rest p now (Bad file n fault fields) reached refl)
-    | inr memory ↦ subst (λ x. MakesAlone {A} steps p next (Err x)) (sym memory) tt
+    | inr memory ↦ subst (λ x. MakesAlone {A = A} steps p next (Err x)) (sym memory) tt
   ]
 
   -- a call that reads no file makes these steps whatever the files hold
@@ -91,8 +91,8 @@ module _ {A : Type 0} where
 
   -- a file that is in the way stops the whole
   pub Makes-unopened : {B : Type 0} (held : Held) (f f' : ℕ) (name : List ℕ) (says : Contents → ℕ → List ℕ → List Step)
-      (p now : Progress) (e : ScriptStop) → Opened {B} held f f' name (Err e)
-      → Makes {A} held f f' (λ contents. steps_of_file contents name (says contents)) p now (Err e)
+      (p now : Progress) (e : ScriptStop) → Opened {A = B} held f f' name (Err e)
+      → Makes {A = A} held f f' (λ contents. steps_of_file contents name (says contents)) p now (Err e)
   Makes-unopened held f f' name says p now (stop.Fault file) opened = (
     subst (λ n. IsMissing held n ⊎ Rose f f') (sym opened.0) opened.1,
     λ contents told. subst (λ n. Meets (steps_of_file contents name (says contents)) p n) (sym opened.0)
@@ -104,7 +104,7 @@ module _ {A : Type 0} where
 
   -- the reading of all steps of a script is the reading of the script
   pub Reads-made : (held : Held) (f f' : ℕ) (name : List ℕ) (room : ℕ) (now : Progress) (e : ScriptStop)
-      → Makes {A} held f f' (λ contents. script_steps contents name) (start room) now (Err e)
+      → Makes {A = A} held f f' (λ contents. script_steps contents name) (start room) now (Err e)
       → Reads held f f' name room (Err e)
   Reads-made held f f' name room now (stop.Fault file) makes = makes
   Reads-made held f f' name room now (stop.Bad file n fault fields) makes =

@@ -1,5 +1,5 @@
 -- How the steps of a reading make the whole.
-use Rattle.std.proofs.Common.{◌≡◌, ◌∙◌, ℕ, ◌+◌, ◌≤◌, List, [], ◌∷◌, ◌++◌, Result, Ok, Err, refl, sym, ap, append_assoc, append_nil}
+use Rattle.std.proofs.Common.{◌≡◌, ◌∙◌, ℕ, ◌+◌, ◌≤◌, List, [], ◌∷◌, ◌++◌, Result, Ok, Err, refl, sym, ap, append_assoc, append-nil}
 use Rattle.refresh_streams.specs.Reading.{◌>>=◌, Trouble, Step, Opens, Progress, after_step, after_steps, line_steps, Reached, Meets}
 
 step-append : (r : Result Progress Trouble) (steps more : List Step)
@@ -37,7 +37,7 @@ Reached-stop steps xs rest p now trouble reached stopped =
 
 -- all are made
 pub Reached-end : (steps : List Step) (p now : Progress) → Reached steps [] p now → after_steps steps p ≡ Ok now
-Reached-end steps p now reached = ap (λ s. after_steps s p) (reached.cut ∙ append_nil reached.made) ∙ reached.progress
+Reached-end steps p now reached = ap (λ s. after_steps s p) (reached.cut ∙ append-nil reached.made) ∙ reached.progress
 
 -- what a part meets the whole meets
 pub Meets-within : (steps xs rest : List Step) (p now : Progress) (file : List ℕ)

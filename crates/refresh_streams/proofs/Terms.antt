@@ -1,5 +1,6 @@
 -- Terms, one after another, and the two points in one of them.
 use Rattle.std.proofs.Common.{◌≡◌, ◌∙◌, ℕ, zero, suc, ◌+◌, ◌<◌, true, false, List, [], ◌∷◌, ◌++◌, length, take, drop, Option, Some, None, refl, ap, arith}
+use Rattle.std.proofs.lemmas.Bool.{false≢true}
 use Rattle.cubit_base.specs.declared.predicate.Predicate.{Predicate}
 use Rattle.cubit_base.specs.declared.predicate.Range.{Range}
 use Rattle.refresh_streams.specs.Term.{begins_with_points, cut_at_points, with_range, with_terms}
@@ -19,11 +20,8 @@ with_range-none p column (Some range) = refl
 -- two points at a place cut there
 pub cut-here : (text : List ℕ) (at : ℕ) → begins_with_points (drop at text) ≡ true
     → cut_at_points (drop at text) ≡ ([], Some (drop (at + 2) text))
-cut-here [] at points = absurd (no at points)
-  where
-    no : (at : ℕ) → begins_with_points (drop at []) ≡ true → ⊥
-    no zero ()
-    no (suc at) ()
+cut-here [] zero points = absurd (false≢true points)
+cut-here [] (suc at) points = absurd (false≢true points)
 cut-here (b ∷ text) zero points = rw points refl
 cut-here (b ∷ text) (suc at) points =
     let next : suc at + 2 ≡ suc (at + 2) = omega arith in

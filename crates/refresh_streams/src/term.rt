@@ -31,7 +31,7 @@ pub(crate) fn predicate_of(terms: &[u8]) -> Option<Predicate>
 {
     let mut predicate = everything();
     let mut rest = terms;
-    for _word in 0..space_count(terms) {
+    for taken in 0..space_count(terms) {
         let (term, others) = first_word(rest);
         predicate = with_term(predicate, term)?;
         rest = others;
