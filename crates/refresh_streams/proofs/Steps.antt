@@ -1,5 +1,5 @@
 -- How the steps of a reading make the whole.
-use Rattle.std.proofs.Common.{◌≡◌, ◌∙◌, ℕ, ◌+◌, ◌≤◌, List, [], ◌∷◌, ◌++◌, Result, Ok, Err, refl, sym, ap, append_assoc, append-nil}
+use Rattle.std.proofs.Common.{◌≡◌, ◌∙◌, ℕ, ◌+◌, ◌≤◌, List, [], ◌∷◌, ◌++◌, Result, Ok, Err, refl, sym, ap, subst, append_assoc, append-nil}
 use Rattle.refresh_streams.specs.Reading.{◌>>=◌, Trouble, Step, Opens, Progress, after_step, after_steps, line_steps, Reached, Meets}
 
 step-append : (r : Result Progress Trouble) (steps more : List Step)
@@ -24,6 +24,13 @@ Reached-more steps xs rest p now next reached more = record {
   cut = reached.cut ∙ sym (append_assoc reached.made xs rest);
   progress = after_steps-append reached.made xs p ∙ ap (λ r. r >>= after_steps xs) reached.progress ∙ more;
 }
+
+-- one stretch of steps after another
+pub Reached-then : (steps mid rest : List Step) (p now next : Progress)
+    → Reached steps mid p now → Reached mid rest now next → Reached steps rest p next
+Reached-then steps mid rest p now next first second =
+    Reached-more steps second.made rest p now next
+    (subst (λ s. Reached steps s p now) second.cut first) second.progress
 
 -- the first of the steps behind them that is in the way stops all
 pub Reached-stop : (steps xs rest : List Step) (p now : Progress) (trouble : Trouble)

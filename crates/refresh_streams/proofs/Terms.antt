@@ -27,10 +27,14 @@ cut-here (b ∷ text) (suc at) points =
     let next : suc at + 2 ≡ suc (at + 2) = omega arith in
     rw next (cut-here text at points)
 
+-- a cut of what follows some bytes
+abbrev pub onto : List ℕ → List ℕ × Option (List ℕ) → List ℕ × Option (List ℕ)
+onto front cut = (front ++ cut.0, cut.1)
+
 -- a place without two points is passed
 pub cut-later : (text : List ℕ) (at : ℕ) → at < length text → begins_with_points (drop at text) ≡ false
-    → (take at text ++ (cut_at_points (drop at text)).0, (cut_at_points (drop at text)).1)
-    ≡ (take (at + 1) text ++ (cut_at_points (drop (at + 1) text)).0, (cut_at_points (drop (at + 1) text)).1)
+    → onto (take at text) (cut_at_points (drop at text))
+    ≡ onto (take (at + 1) text) (cut_at_points (drop (at + 1) text))
 cut-later [] at below none = absurd (omega (arith, below))
 cut-later (b ∷ text) zero below none = rw none refl
 cut-later (b ∷ text) (suc at) below none =

@@ -1,9 +1,13 @@
 -- The words of a line, by how many there are.
-use Rattle.std.proofs.Common.{◌≡◌, ◌≢◌, ◌∙◌, ℕ, suc, ◌+◌, ◌<◌, ◌≤◌, List, [], ◌∷◌, ◌++◌, length, drop, count_by, refl, sym, ap, ne_eqb, eq-eqb, arith}
+use Rattle.std.proofs.Common.{◌≡◌, ◌≢◌, ◌∙◌, ℕ, suc, ◌+◌, ◌<◌, ◌≤◌, List, [], ◌∷◌, ◌++◌, length, drop, count_by, refl, sym, ap, ne_eqb, eq-eqb, le-leb, Bool, true, false, ◌==◌, Ok, if◌then◌else◌, IsUtf8, arith}
 use Rattle.std.specs.List.{join_with_byte}
+use Rattle.std.specs.Str.{is_utf8}
+use Rattle.std.proofs.lemmas.Bool.{false≢true, lt-leb}
+use Rattle.std.proofs.lemmas.Str.{is_utf8-from_IsUtf8, IsUtf8-from_is_utf8}
 use Rattle.std.proofs.lemmas.List.Splits.{length-slice_split, join_with_byte-slice_split}
 use Rattle.tbl_text.specs.Values.{is_space, words_of}
-use Rattle.refresh_streams.specs.ScriptLine.{malformed, numbered, row_value, row_of, key_of, order_of, q6_of, merge_of}
+use Rattle.refresh_streams.specs.ScriptLine.{malformed, numbered, row_value, row_of, key_of, order_of, or_bad_term, query_of, q6_of, merge_of, name_of}
+use Rattle.refresh_streams.specs.Term.{predicate_of}
 
 -- one more than spaces
 pub length-words_of : (bytes : List ℕ) → length (words_of bytes) ≡ count_by is_space bytes + 1
@@ -26,6 +30,13 @@ behind-word [] rest = refl
 behind-word (b ∷ word) rest =
     let next : suc (length word) + 1 ≡ suc (length word + 1) = omega arith in
     rw next (behind-word word rest)
+
+-- nothing stands behind a word alone
+pub behind-last : (line : List ℕ) → drop (length line + 1) line ≡ []
+behind-last [] = refl
+behind-last (b ∷ line) =
+    let next : suc (length line) + 1 ≡ suc (length line + 1) = omega arith in
+    rw next (behind-last line)
 
 -- lines of the wrong number of words
 pub row_of-wrong : (fields : List (List ℕ)) → length fields ≢ 9 → row_of fields ≡ malformed
@@ -59,3 +70,24 @@ q6_of-wrong (year ∷ disc ∷ qty ∷ more ∷ fields) wrong = refl
 pub merge_of-some : (fields : List (List ℕ)) → 1 ≤ length fields → merge_of fields ≡ malformed
 merge_of-some [] some = absurd (omega (arith, some))
 merge_of-some (field ∷ fields) some = refl
+
+-- five terms at most
+pub query_of-many : (terms : List (List ℕ)) → 5 < length terms → query_of terms ≡ malformed
+query_of-many terms many = rw (lt-leb (length terms) 5 many) refl
+
+pub query_of-few : (terms : List (List ℕ)) → length terms ≤ 5 → query_of terms ≡ or_bad_term (predicate_of terms)
+query_of-few terms few = rw (le-leb (length terms) 5 few) refl
+
+-- names
+name-cond : (t : Bool) (bytes : List ℕ) → ¬ (t ≡ true) → (if t then Ok bytes else malformed {A = List ℕ}) ≡ malformed
+name-cond true bytes never = absurd (never refl)
+name-cond false bytes never = refl
+
+pub name_of-text : (bytes : List ℕ) → false ≡ (length bytes == 0) → IsUtf8 bytes → name_of bytes ≡ Ok bytes
+name_of-text [] some is = absurd (false≢true some)
+name_of-text (b ∷ bytes) some is = rw (is_utf8-from_IsUtf8 (b ∷ bytes) is) refl
+
+pub name_of-other : (bytes : List ℕ) → false ≡ (length bytes == 0) → ¬ IsUtf8 bytes → name_of bytes ≡ malformed
+name_of-other [] some other = absurd (false≢true some)
+name_of-other (b ∷ bytes) some other =
+    name-cond (is_utf8 (b ∷ bytes)) (b ∷ bytes) (λ yes. other (IsUtf8-from_is_utf8 (b ∷ bytes) yes))

@@ -4,8 +4,8 @@ ghost use Rattle.cubit_base.specs.Command.{weight_of};
 ghost use Rattle.cubit_io.specs.declared.whole.TheConstants.{FILE_LIMIT};
 ghost use Rattle.tbl_text.specs.Lines.{lines_of};
 ghost use Rattle.refresh_streams.specs.Script.{weights, DropsSomeOrder};
-ghost use Rattle.refresh_streams.specs.Reading.{Asks, line_steps, field_number, insert_says, delete_says, script_says, steps_of_file, Reads};
-ghost use Rattle.refresh_streams.specs.Makes.{Makes, MakesAlone, GoesOn, Opened};
+ghost use Rattle.refresh_streams.specs.Reading.{Asks, line_steps, field_number, insert_says, delete_says, script_says, steps_of_file, script_steps, Reads};
+ghost use Rattle.refresh_streams.specs.Makes.{Makes, MakesAlone, MakesFirst, GoesOn, Opened};
 
 use crate::script_line::{Asked, line_asks};
 use crate::stop::{bad, fault};
@@ -35,13 +35,14 @@ pub fn script_of<F: Files>(
     ensures held { F.held files.new ≡ F.held files.old }
     ensures counted { F.faults files.old ≤ F.faults files.new }
 {
-    let bytes = read_file(alloc, files, name)?;
     let mut reading = Reading {
         script: Script::new(alloc),
         left: room,
     };
-    reading.add_script(alloc, files, name, &bytes)?;
-    Ok(reading.script)
+    match reading.add_script_file(alloc, files, name) {
+        Ok(()) => Ok(reading.script),
+        Err(stop) => Err(stop),
+    }
 }
 
 // All bytes of the file of this name.
@@ -111,6 +112,57 @@ impl Reading {
         Ok(())
     }
 
+    // The insert that the first line of a `lineitem` file asks for. It gives what follows the line.
+    fn add_row<'a>(
+        &mut self,
+        alloc: Global,
+        name: &str,
+        number: u32,
+        bytes: &'a [u8],
+    ) -> Result<&'a [u8], ScriptStop>
+        requires bytes { bytes.now ≢ [] }
+        requires within { length bytes.now ≤ FILE_LIMIT }
+        requires few { length self.old.commands < u32.MAX }
+        ensures value { MakesFirst (insert_says name.now) number bytes.now self.old self.new result }
+        ensures shorter { IfOk result (λ rest. length rest.now < length bytes.now) }
+        ensures goes_on { OnOk result (GoesOn 0 self.old self.new) }
+    {
+        match first_row(bytes) {
+            Ok(row) => match self.add(alloc, name, number, Command::Insert(row.0, row.1)) {
+                Ok(()) => Ok(row.2),
+                Err(stop) => Err(stop),
+            },
+            Err(fault) => {
+                let fields = field_number(fault);
+                Err(bad(alloc, name, number, fault.number(), fields))
+            }
+        }
+    }
+
+    // The drop that the first line of a file of deletes asks for. It gives what follows the line.
+    fn add_drop<'a>(
+        &mut self,
+        alloc: Global,
+        name: &str,
+        number: u32,
+        bytes: &'a [u8],
+    ) -> Result<&'a [u8], ScriptStop>
+        requires bytes { bytes.now ≢ [] }
+        requires few { length self.old.commands < u32.MAX }
+        ensures value { MakesFirst (delete_says name.now) number bytes.now self.old self.new result }
+        ensures shorter { IfOk result (λ rest. length rest.now < length bytes.now) }
+        ensures goes_on { OnOk result (GoesOn 0 self.old self.new) }
+    {
+        let (order, rest) = first_order(bytes);
+        match order {
+            Some(order) => match self.add(alloc, name, number, Command::DropOrder(order)) {
+                Ok(()) => Ok(rest),
+                Err(stop) => Err(stop),
+            },
+            None => Err(bad(alloc, name, number, 15, 0)),
+        }
+    }
+
     // The inserts of a `lineitem` file.
     fn add_rows(&mut self, alloc: Global, name: &str, bytes: &[u8]) -> Result<(), ScriptStop>
         requires bytes { length bytes.now ≤ FILE_LIMIT }
@@ -122,15 +174,9 @@ impl Reading {
         let mut number = 0;
         while !rest.is_empty() {
             number += 1;
-            match first_row(rest) {
-                Ok((key, tuple, others)) => {
-                    self.add(alloc, name, number, Command::Insert(key, tuple))?;
-                    rest = others;
-                }
-                Err(fault) => {
-                    let fields = field_number(fault);
-                    return Err(bad(alloc, name, number, fault.number(), fields));
-                }
+            match self.add_row(alloc, name, number, rest) {
+                Ok(others) => rest = others,
+                Err(stop) => return Err(stop),
             }
         }
         Ok(())
@@ -147,12 +193,10 @@ impl Reading {
         let mut number = 0;
         while !rest.is_empty() {
             number += 1;
-            let (order, others) = first_order(rest);
-            match order {
-                Some(order) => self.add(alloc, name, number, Command::DropOrder(order))?,
-                None => return Err(bad(alloc, name, number, 15, 0)),
+            match self.add_drop(alloc, name, number, rest) {
+                Ok(others) => rest = others,
+                Err(stop) => return Err(stop),
             }
-            rest = others;
         }
         Ok(())
     }
@@ -171,8 +215,10 @@ impl Reading {
         ensures held { F.held files.new ≡ F.held files.old }
         ensures counted { F.faults files.old ≤ F.faults files.new }
     {
-        let bytes = read_file(alloc, files, name)?;
-        self.add_rows(alloc, name, &bytes)
+        match read_file(alloc, files, name) {
+            Ok(bytes) => self.add_rows(alloc, name, &bytes),
+            Err(stop) => Err(stop),
+        }
     }
 
     // The drops of the file of deletes of this name.
@@ -189,8 +235,10 @@ impl Reading {
         ensures held { F.held files.new ≡ F.held files.old }
         ensures counted { F.faults files.old ≤ F.faults files.new }
     {
-        let bytes = read_file(alloc, files, name)?;
-        self.add_drops(alloc, name, &bytes)
+        match read_file(alloc, files, name) {
+            Ok(bytes) => self.add_drops(alloc, name, &bytes),
+            Err(stop) => Err(stop),
+        }
     }
 
     // What a line of the script asks for.
@@ -219,6 +267,26 @@ impl Reading {
         }
     }
 
+    // What the script of this name asks for.
+    fn add_script_file<F: Files>(
+        &mut self,
+        alloc: Global,
+        files: &mut F,
+        name: &str,
+    ) -> Result<(), ScriptStop>
+        requires few { length self.old.commands + self.old.left ≤ 4_194_304 }
+        ensures value { Makes (F.held files.old) (F.faults files.old) (F.faults files.new)
+            (λ contents. script_steps contents name.now) self.old self.new result }
+        ensures goes_on { OnOk result (GoesOn FILE_LIMIT self.old self.new) }
+        ensures held { F.held files.new ≡ F.held files.old }
+        ensures counted { F.faults files.old ≤ F.faults files.new }
+    {
+        match read_file(alloc, files, name) {
+            Ok(bytes) => self.add_script(alloc, files, name, &bytes),
+            Err(stop) => Err(stop),
+        }
+    }
+
     // What the lines of the script ask for.
     fn add_script<F: Files>(
         &mut self,
@@ -240,8 +308,10 @@ impl Reading {
         while !rest.is_empty() {
             number += 1;
             let (line, others) = split_line(rest);
-            self.add_line(alloc, files, name, number, line)?;
-            rest = others;
+            match self.add_line(alloc, files, name, number, line) {
+                Ok(()) => rest = others,
+                Err(stop) => return Err(stop),
+            }
         }
         Ok(())
     }

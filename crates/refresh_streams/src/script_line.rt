@@ -1,11 +1,11 @@
 //! Lines of a script.
-ghost use Rattle.std.specs.Prelude.{◌≡◌, ◌≤◌, ◌<◌, ◌+◌, ◌∷◌, length, count_by, [], Ok, Err, IfOk, MatchResult};
+ghost use Rattle.std.specs.Prelude.{◌≡◌, ◌≤◌, ◌<◌, ◌+◌, ◌∷◌, length, count_by, [], Ok, Err, IfOk, IfSome, MatchResult};
 ghost use Rattle.tbl_text.specs.Values.{is_space, words_of};
 ghost use Rattle.refresh_streams.specs.Script.{DropsSomeOrder};
-ghost use Rattle.refresh_streams.specs.ScriptLine.{verb_named, order_value, key_value, row_value, row_of, key_of, order_of, query_of, q6_of, name_of, asks, verb_asks, word_asks, words_ask, line_asks, request_of, AsksSomeOrder};
+ghost use Rattle.refresh_streams.specs.ScriptLine.{verb_named, order_value, key_value, row_value, row_of, key_of, order_of, query_of, q6_of, q6_of_numbers, name_of, asks, verb_asks, word_asks, words_ask, line_asks, request_of, AsksSomeOrder};
 
 use crate::seeded::everything;
-use crate::term::{predicate_of, within};
+use crate::term::{is_word, predicate_of, within};
 use cubit_base::{Command, Key, Predicate, Tuple};
 use std::str;
 use tbl_text::{
@@ -104,20 +104,32 @@ fn word_asks<'a>(word: &[u8]) -> Result<Asked<'a>, u8>
 fn verb_named(word: &[u8]) -> Option<Verb>
     ensures { result ≡ verb_named word.now }
 {
-    match word {
-        b"insert" => Some(Verb::Insert),
-        b"update" => Some(Verb::Update),
-        b"delete" => Some(Verb::Delete),
-        b"drop" => Some(Verb::Drop),
-        b"lookup" => Some(Verb::Lookup),
-        b"rows" => Some(Verb::Rows),
-        b"count" => Some(Verb::Count),
-        b"sum" => Some(Verb::Sum),
-        b"q6" => Some(Verb::Q6),
-        b"merge" => Some(Verb::Merge),
-        b"insert-file" => Some(Verb::InsertFile),
-        b"delete-file" => Some(Verb::DeleteFile),
-        _ => None,
+    if is_word(word, "insert") {
+        Some(Verb::Insert)
+    } else if is_word(word, "update") {
+        Some(Verb::Update)
+    } else if is_word(word, "delete") {
+        Some(Verb::Delete)
+    } else if is_word(word, "drop") {
+        Some(Verb::Drop)
+    } else if is_word(word, "lookup") {
+        Some(Verb::Lookup)
+    } else if is_word(word, "rows") {
+        Some(Verb::Rows)
+    } else if is_word(word, "count") {
+        Some(Verb::Count)
+    } else if is_word(word, "sum") {
+        Some(Verb::Sum)
+    } else if is_word(word, "q6") {
+        Some(Verb::Q6)
+    } else if is_word(word, "merge") {
+        Some(Verb::Merge)
+    } else if is_word(word, "insert-file") {
+        Some(Verb::InsertFile)
+    } else if is_word(word, "delete-file") {
+        Some(Verb::DeleteFile)
+    } else {
+        None
     }
 }
 
@@ -251,6 +263,19 @@ fn q6_of(fields: u32, rest: &[u8]) -> Result<Predicate, u8>
     let year = within(1992, 1998, integer_of(year));
     let disc = within(0, 10, money_of(disc));
     let qty = within(1, 51, quantity_of(qty));
+    q6_of_numbers(year, disc, qty)
+}
+
+fn q6_of_numbers(
+    year: Option<u16>,
+    disc: Option<u16>,
+    qty: Option<u16>,
+) -> Result<Predicate, u8>
+    requires year { IfSome year (λ n. (1992 ≤ n) × (n ≤ 1998)) }
+    requires disc { IfSome disc (λ n. n ≤ 10) }
+    requires qty { IfSome qty (λ n. (1 ≤ n) × (n ≤ 51)) }
+    ensures { result ≡ q6_of_numbers year disc qty }
+{
     match (year, disc, qty) {
         (Some(year), Some(disc), Some(qty)) => Ok(Predicate::q6(year, disc as u8, qty as u8)),
         _ => Err(MALFORMED),

@@ -1,5 +1,5 @@
 //! The terms of a query.
-ghost use Rattle.std.specs.Prelude.{◌≡◌, ◌≤◌, length, option_map, position};
+ghost use Rattle.std.specs.Prelude.{◌≡◌, ◌≤◌, length, option_map, position, bytes_eq, IfSome};
 ghost use Rattle.std.specs.Bool.{OnTrue};
 ghost use Rattle.tbl_text.specs.Values.{words_of};
 ghost use Rattle.refresh_streams.specs.Generator.{everything};
@@ -33,7 +33,10 @@ pub(crate) fn predicate_of(terms: &[u8]) -> Option<Predicate>
     let mut rest = terms;
     for taken in 0..space_count(terms) {
         let (term, others) = first_word(rest);
-        predicate = with_term(predicate, term)?;
+        match with_term(predicate, term) {
+            Some(narrower) => predicate = narrower,
+            None => return None,
+        }
         rest = others;
     }
     with_term(predicate, rest)
@@ -62,14 +65,27 @@ fn equals_at(term: &[u8]) -> Option<usize>
 fn column_named(name: &[u8]) -> Option<Column>
     ensures { result ≡ column_named name.now }
 {
-    match name {
-        b"ship" => Some(Column::Ship),
-        b"disc" => Some(Column::Disc),
-        b"qty" => Some(Column::Qty),
-        b"flag" => Some(Column::Flag),
-        b"status" => Some(Column::Status),
-        _ => None,
+    if is_word(name, "ship") {
+        Some(Column::Ship)
+    } else if is_word(name, "disc") {
+        Some(Column::Disc)
+    } else if is_word(name, "qty") {
+        Some(Column::Qty)
+    } else if is_word(name, "flag") {
+        Some(Column::Flag)
+    } else if is_word(name, "status") {
+        Some(Column::Status)
+    } else {
+        None
     }
+}
+
+/// Whether the bytes spell the word.
+#[inline(always)]
+pub(crate) fn is_word(bytes: &[u8], word: &str) -> bool
+    ensures { result ≡ bytes_eq bytes.now word.now }
+{
+    bytes == word.as_bytes()
 }
 
 fn range_at(predicate: &Predicate, column: Column) -> Option<Range>
@@ -163,7 +179,8 @@ fn number_of(column: Column, value: &[u8]) -> Option<u16>
 
 /// The number, where there is one and it lies from `low` to `high`.
 pub(crate) fn within(low: u16, high: u16, number: Option<u64>) -> Option<u16>
-    ensures { result ≡ number_within low high number }
+    ensures value { result ≡ number_within low high number }
+    ensures range { IfSome result (λ n. (low ≤ n) × (n ≤ high)) }
 {
     match number {
         Some(n) if u64::from(low) <= n && n <= u64::from(high) => Some(n as u16),

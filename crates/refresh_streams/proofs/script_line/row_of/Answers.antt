@@ -1,4 +1,4 @@
-use Rattle.std.proofs.Common.{◌≡◌, ◌∙◌, ◌∷◌, refl, sym, ap, arith}
+use Rattle.std.proofs.Common.{◌≡◌, ◌∙◌, ◌∷◌, length, refl, sym, ap, arith}
 use Rattle.tbl_text.specs.Values.{words_of}
 use Rattle.refresh_streams.proofs.Words.{length-words_of, row_of-wrong, row_of-right}
 use Rattle.refresh_streams.proofs.script_line.row_of.Goals as goal
@@ -16,7 +16,7 @@ returns-in-Err c =
     let values = words_of c.first_word-2.result.1.now in
     let words = c.first_word.ensures.words ∙ ap (λ words. order ∷ words) c.first_word-2.ensures.words in
     let count = length-words_of c.first_word-2.result.1.now in
-    let seven = omega (arith, count, c.requires, c.if-fields-ne9.false, c.first_word.ensures.spaces,
-      c.first_word-2.ensures.spaces) in
+    let seven : length values ≡ 7 = omega (arith, count, c.requires, c.if-fields-ne9.false, c.first_word.ensures.spaces,
+    c.first_word-2.ensures.spaces) in
     rw (row_of-right (words_of c.args.rest.now) values order line words seven, sym c.in-Err.ensures, c.number.ensures)
     refl

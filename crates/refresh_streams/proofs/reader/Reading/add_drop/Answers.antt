@@ -1,0 +1,20 @@
+use Rattle.std.proofs.Common.{◌≡◌, ◌∙◌, ◌+◌, ◌≤◌, List, [], ◌∷◌, length, Ok, Err, refl, sym, ap, arith}
+use Rattle.cubit_base.specs.declared.command.Command.TheVariants.{Insert, DropOrder}
+use Rattle.tbl_text.specs.Lines.{lines_of}
+use Rattle.refresh_streams.specs.Reading.{Asks, Opens, order_step, line_steps, insert_says, delete_says, script_says}
+use Rattle.refresh_streams.proofs.Makes.{MakesAlone-rest, Makes-stop, Makes-file, Makes-unopened, GoesOn-then, GoesOn-more}
+use Rattle.refresh_streams.proofs.Rows.{insert_steps-row, delete_steps-first}
+use Rattle.refresh_streams.proofs.Steps.{Reached-then, Reached-more}
+use Rattle.refresh_streams.proofs.reader.Reading.add_drop.Goals as goal
+
+pub returns-in-Ok-clause-value : goal.returns-in-Ok-clause-value
+returns-in-Ok-clause-value c =
+    let name = c.args.name.now in
+    let n = c.args.number in
+    let rest = c.first_order-order.result.1.now in record {
+      made = Asks name n (DropOrder c.in-Some.order) ∷ [];
+      cut = delete_steps-first name n c.args.bytes.now rest c.first_order-order.result.0
+          c.first_order-order.ensures.value
+          ∙ ap (λ order. order_step name n order ∷ line_steps (delete_says name) (n + 1) (lines_of rest)) c.in-Some.is;
+      progress = c.in-Ok.ensures.value;
+    }
