@@ -18,4 +18,4 @@ returns c =
     let before = c.loop-taken.predicate in
     let one = words_of-one rest
     (omega (arith, c.loop-taken.invariant.spaces, c.loop-taken-test.false, c.space_count-taken-end.ensures)) in
-    c.with_term.ensures ∙ ap (λ words. with_terms (Some before) words) (sym one) ∙ c.loop-taken.invariant.value
+    c.with_term-2.ensures ∙ ap (λ words. with_terms (Some before) words) (sym one) ∙ c.loop-taken.invariant.value

@@ -1,7 +1,7 @@
-use Rattle.std.proofs.Common.{◌≡◌, ◌∙◌, ◌+◌, ◌≤◌, List, [], ◌∷◌, length, Ok, Err, refl, sym, ap, subst, arith}
+use Rattle.std.proofs.Common.{◌≡◌, ◌∙◌, ℕ, ◌+◌, ◌≤◌, List, [], ◌∷◌, length, Ok, Err, refl, sym, ap, subst, arith}
 use Rattle.cubit_base.specs.declared.command.Command.TheVariants.{Insert, DropOrder}
 use Rattle.tbl_text.specs.Lines.{lines_of}
-use Rattle.refresh_streams.specs.Reading.{Asks, Opens, order_step, line_steps, insert_says, delete_says, script_says, Reached}
+use Rattle.refresh_streams.specs.Reading.{Contents, Step, Asks, Opens, order_step, line_steps, insert_says, delete_says, script_says, Reached}
 use Rattle.refresh_streams.proofs.Makes.{MakesAlone-rest, Makes-stop, Makes-file, Makes-unopened, GoesOn-then, GoesOn-more}
 use Rattle.refresh_streams.proofs.Rows.{insert_steps-row, delete_steps-first}
 use Rattle.refresh_streams.proofs.Steps.{Reached-then, Reached-more, line_steps-next}
@@ -10,7 +10,7 @@ use Rattle.refresh_streams.proofs.reader.Reading.add_script.Goals as goal
 pub loop-rest-preserved : goal.loop-rest-preserved
 loop-rest-preserved g c =
     let so_far = c.loop-rest.invariant in
-    let steps = λ contents. line_steps (script_says contents c.args.name.now) 1 (lines_of c.args.bytes.now) in
+    let steps : Contents → List Step = λ contents. line_steps (script_says contents c.args.name.now) 1 (lines_of c.args.bytes.now) in
     let n = c.loop-rest.number + 1 in
     let line = c.split_line.result.0.now in
     let others = lines_of c.split_line.result.1.now in record {
@@ -33,8 +33,8 @@ returns-in-Err-clause-value g c =
     let n = c.loop-rest.number + 1 in
     let line = c.split_line.result.0.now in
     let others = lines_of c.split_line.result.1.now in
-    let says = λ contents. script_says contents c.args.name.now in
-    let steps = λ contents. line_steps (says contents) 1 (lines_of c.args.bytes.now) in
+    let says : Contents → ℕ → List ℕ → List Step = λ contents. script_says contents c.args.name.now in
+    let steps : Contents → List Step = λ contents. line_steps (says contents) 1 (lines_of c.args.bytes.now) in
     Makes-stop (g.F.Files.held c.args.files.now) (g.F.Files.held c.loop-rest.files)
     (g.F.Files.faults c.args.files.now) (g.F.Files.faults c.loop-rest.files) (g.F.Files.faults c.add_line.new.files)
     steps (λ contents. says contents n line) (λ contents. line_steps (says contents) (n + 1) others)
