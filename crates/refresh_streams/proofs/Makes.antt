@@ -27,10 +27,10 @@ Makes-stop held held' f f' f'' steps xs rest p now next next' (stop.Fault file) 
     | inr rose ↦ inr (omega (arith, rose, counted))
   ],
   λ contents told. Meets-within (steps contents) (xs contents) (rest contents) p now file (reached contents told)
-  (makes.1 contents (stays ∙ told)),
+      (makes.1 contents (stays ∙ told)),
 )
 Makes-stop held held' f f' f'' steps xs rest p now next next' (stop.Bad file n fault fields) stays counted reached
-  makes =
+    makes =
     λ contents told. Reached-stop (steps contents) (xs contents) (rest contents) p now (Bad file n fault fields)
     (reached contents told) (makes contents (stays ∙ told))
 Makes-stop held held' f f' f'' steps xs rest p now next next' stop.Memory stays counted reached makes = tt
@@ -54,7 +54,7 @@ pub MakesAlone-bad : (steps rest : List Step) (p now next : Progress) (file : Li
     → (e ≡ stop.Bad file n fault fields) ⊎ (e ≡ stop.Memory) → MakesAlone steps p next (Err e)
 MakesAlone-bad steps rest p now next file n fault fields e reached is = elim is [
   | inl bad ↦ subst (λ x. MakesAlone steps p next (Err x)) (sym bad)
-    (Reached-stop steps (Stops (Bad file n fault fields) ∷ []) rest p now (Bad file n fault fields) reached refl)
+      (Reached-stop steps (Stops (Bad file n fault fields) ∷ []) rest p now (Bad file n fault fields) reached refl)
   | inr memory ↦ subst (λ x. MakesAlone steps p next (Err x)) (sym memory) tt
 ]
 
@@ -82,7 +82,7 @@ Makes-file held held' f f' f'' name steps xs p now (Err (stop.Fault file)) stays
     | inr rose ↦ inr (omega (arith, rose, counted))
   ],
   λ contents told. Meets-behind name (steps contents) (xs contents) p file (are contents told)
-  (makes.1 contents (stays ∙ told)),
+      (makes.1 contents (stays ∙ told)),
 )
   where
     Meets-behind : (name : List ℕ) (steps xs : List Step) (p : Progress) (file : List ℕ)
@@ -107,7 +107,7 @@ pub Makes-unopened : (held : Held) (f f' : ℕ) (name : List ℕ) (says : Conten
 Makes-unopened held f f' name says p now (stop.Fault file) opened = (
   subst (λ n. IsMissing held n ⊎ Rose f f') (sym opened.0) opened.1,
   λ contents told. subst (λ n. Meets (steps_of_file contents name (says contents)) p n) (sym opened.0)
-  (Meets-first name (steps_of_bytes name (says contents) (contents name)) p),
+      (Meets-first name (steps_of_bytes name (says contents) (contents name)) p),
 )
 Makes-unopened held f f' name says p now (stop.Bad file n fault fields) opened =
     λ contents told. ap (λ s. after_steps s p) (opened contents told (says contents))

@@ -14,14 +14,14 @@ abbrev pub NotOpened : Held → ℕ → ℕ → List ℕ → ScriptStop → Type
 NotOpened held faults faults' name (stop.Fault file) = (file ≡ name) × (IsMissing held name ⊎ Rose faults faults')
 NotOpened held faults faults' name (stop.Bad file n fault fields) =
     WhereTold held (λ contents. (says : ℕ → List ℕ → List Step)
-      → steps_of_bytes name says (contents name) ≡ Stops (Bad file n fault fields) ∷ [])
+    → steps_of_bytes name says (contents name) ≡ Stops (Bad file n fault fields) ∷ [])
 NotOpened held faults faults' name stop.Memory = Unit {0}
 
 -- a file was read whole, or is in the way
 abbrev pub Opened : {A : Type 0} → Held → ℕ → ℕ → List ℕ → Result (Vec ℕ A) ScriptStop → Type 0
 Opened held faults faults' name (Ok bytes) =
     WhereTold held (λ contents. (says : ℕ → List ℕ → List Step)
-      → steps_of_bytes name says (contents name) ≡ line_steps says 1 (lines_of bytes.items))
+    → steps_of_bytes name says (contents name) ≡ line_steps says 1 (lines_of bytes.items))
 Opened held faults faults' name (Err stop) = NotOpened held faults faults' name stop
 
 -- a call makes these steps, which depend on what the files hold

@@ -95,7 +95,10 @@ mod tests {
         name.push(b'a')?;
         name.push(255)?;
         assert_eq!(rt; name.as_bytes(), [97, 255].as_slice());
-        assert_eq!(rt; (name.len(), name.get(1).copied(), name.get(2).copied()), (2, Some(255), None));
+        assert_eq!(rt;
+            (name.len(), name.get(1).copied(), name.get(2).copied()),
+            (2, Some(255), None)
+        );
         let kept = FileName::of(rt.alloc(), "a name")?;
         assert_eq!(rt; kept.as_bytes(), b"a name".as_slice());
         Ok(())

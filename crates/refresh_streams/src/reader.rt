@@ -46,11 +46,7 @@ pub fn script_of<F: Files>(
 }
 
 // All bytes of the file of this name.
-fn read_file<F: Files>(
-    alloc: Global,
-    files: &mut F,
-    name: &str,
-) -> Result<Vec<u8>, ScriptStop>
+fn read_file<F: Files>(alloc: Global, files: &mut F, name: &str) -> Result<Vec<u8>, ScriptStop>
     ensures value { Opened (F.held files.old) (F.faults files.old) (F.faults files.new) name.now result }
     ensures within { IfOk result (λ bytes. length bytes.items ≤ FILE_LIMIT) }
     ensures held { F.held files.new ≡ F.held files.old }

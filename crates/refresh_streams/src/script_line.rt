@@ -266,11 +266,7 @@ fn q6_of(fields: u32, rest: &[u8]) -> Result<Predicate, u8>
     q6_of_numbers(year, disc, qty)
 }
 
-fn q6_of_numbers(
-    year: Option<u16>,
-    disc: Option<u16>,
-    qty: Option<u16>,
-) -> Result<Predicate, u8>
+fn q6_of_numbers(year: Option<u16>, disc: Option<u16>, qty: Option<u16>) -> Result<Predicate, u8>
     requires year { IfSome year (λ n. (1992 ≤ n) × (n ≤ 1998)) }
     requires disc { IfSome disc (λ n. n ≤ 10) }
     requires qty { IfSome qty (λ n. (1 ≤ n) × (n ≤ 51)) }

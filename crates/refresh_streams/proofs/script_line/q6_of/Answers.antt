@@ -11,8 +11,13 @@ returns-then-fields-ne3 c =
 
 pub returns : goal.returns
 returns c =
-    let last = words_of-one c.first_word-2.result.1.now (omega (arith, c.requires, c.if-fields-ne3.false,
-      c.first_word.ensures.spaces, c.first_word-2.ensures.spaces)) in
+    let last = words_of-one c.first_word-2.result.1.now (omega (
+      arith,
+      c.requires,
+      c.if-fields-ne3.false,
+      c.first_word.ensures.spaces,
+      c.first_word-2.ensures.spaces,
+    )) in
     rw (
       c.first_word.ensures.words,
       c.first_word-2.ensures.words,

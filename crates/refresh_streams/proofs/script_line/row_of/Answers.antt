@@ -16,7 +16,13 @@ returns-in-Err c =
     let values = words_of c.first_word-2.result.1.now in
     let words = c.first_word.ensures.words ∙ ap (λ words. order ∷ words) c.first_word-2.ensures.words in
     let count = length-words_of c.first_word-2.result.1.now in
-    let seven : length values ≡ 7 = omega (arith, count, c.requires, c.if-fields-ne9.false, c.first_word.ensures.spaces,
-    c.first_word-2.ensures.spaces) in
+    let seven : length values ≡ 7 = omega (
+      arith,
+      count,
+      c.requires,
+      c.if-fields-ne9.false,
+      c.first_word.ensures.spaces,
+      c.first_word-2.ensures.spaces,
+    ) in
     rw (row_of-right (words_of c.args.rest.now) values order line words seven, sym c.in-Err.ensures, c.number.ensures)
     refl
