@@ -35,39 +35,12 @@ Makes-stop held held' f f' f'' steps xs rest p now next next' (stop.Bad file n f
     (reached contents told) (makes contents (stays ∙ told))
 Makes-stop held held' f f' f'' steps xs rest p now next next' stop.Memory stays counted reached makes = tt
 
--- the part in front
-pub MakesAlone-first : (steps xs rest : List Step) (p next next' : Progress) (e : ScriptStop) → steps ≡ xs ++ rest
-    → MakesAlone xs p next (Err e) → MakesAlone steps p next' (Err e)
-MakesAlone-first steps xs rest p next next' e is makes =
-    MakesAlone-stop steps xs rest p p next next' e (record { made = []; cut = is; progress = refl }) makes
-
 -- what follows the steps that are made stops the whole
 pub MakesAlone-rest : (steps rest : List Step) (p now next next' : Progress) (e : ScriptStop)
     → Reached steps rest p now → MakesAlone rest now next (Err e) → MakesAlone steps p next' (Err e)
 MakesAlone-rest steps rest p now next next' e reached makes =
-    MakesAlone-stop steps rest [] p now next next' e (subst (λ s. Reached steps s p now) (sym (append-nil rest)) reached)
-    makes
-
--- a line that is bad stops the whole
-pub MakesAlone-bad : (steps rest : List Step) (p now next : Progress) (file : List ℕ) (n fault fields : ℕ)
-    (e : ScriptStop) → Reached steps (Stops (Bad file n fault fields) ∷ rest) p now
-    → (e ≡ stop.Bad file n fault fields) ⊎ (e ≡ stop.Memory) → MakesAlone steps p next (Err e)
-MakesAlone-bad steps rest p now next file n fault fields e reached is = elim is [
-  | inl bad ↦ subst (λ x. MakesAlone steps p next (Err x)) (sym bad)
-      (Reached-stop steps (Stops (Bad file n fault fields) ∷ []) rest p now (Bad file n fault fields) reached refl)
-  | inr memory ↦ subst (λ x. MakesAlone steps p next (Err x)) (sym memory) tt
-]
-
--- a call that reads no file makes these steps whatever the files hold
-pub Makes-alone : (held : Held) (f f' : ℕ) (steps : Contents → List Step) (xs : List Step) (p now : Progress)
-    (r : Result (Unit {0}) ScriptStop) → WhereTold held (λ contents. steps contents ≡ xs) → MakesAlone xs p now r
-    → Makes held f f' steps p now r
-Makes-alone held f f' steps xs p now (Ok done) are makes =
-    λ contents told. ap (λ s. after_steps s p) (are contents told) ∙ makes
-Makes-alone held f f' steps xs p now (Err (stop.Fault file)) are makes = absurd makes
-Makes-alone held f f' steps xs p now (Err (stop.Bad file n fault fields)) are makes =
-    λ contents told. ap (λ s. after_steps s p) (are contents told) ∙ makes
-Makes-alone held f f' steps xs p now (Err stop.Memory) are makes = tt
+    MakesAlone-stop steps rest [] p now next next' e
+    (subst (λ s. Reached steps s p now) (sym (append-nil rest)) reached) makes
 
 -- the steps of a file's lines are those of the file
 pub Makes-file : (held held' : Held) (f f' f'' : ℕ) (name : List ℕ) (steps xs : Contents → List Step)
@@ -113,15 +86,6 @@ Makes-unopened held f f' name says p now (stop.Bad file n fault fields) opened =
     λ contents told. ap (λ s. after_steps s p) (opened contents told (says contents))
 Makes-unopened held f f' name says p now stop.Memory opened = tt
 
--- the reading of all steps of a script is the reading of the script
-pub Reads-made : (held : Held) (f f' : ℕ) (name : List ℕ) (room : ℕ) (now : Progress) (e : ScriptStop)
-    → Makes held f f' (λ contents. script_steps contents name) (start room) now (Err e)
-    → Reads held f f' name room (Err e)
-Reads-made held f f' name room now (stop.Fault file) makes = makes
-Reads-made held f f' name room now (stop.Bad file n fault fields) makes =
-    λ contents told. rw (makes contents told) refl
-Reads-made held f f' name room now stop.Memory makes = tt
-
 -- one part after another
 pub GoesOn-then : (a b c : ℕ) (p q r : Progress) → a + b ≤ c → GoesOn a p q → GoesOn b q r → GoesOn c p r
 GoesOn-then a b c p q r few first second = record {
@@ -129,9 +93,6 @@ GoesOn-then a b c p q r few first second = record {
   orders = λ are. second.orders (first.orders are);
   few = omega (arith, few, first.few, second.few);
 }
-
-pub GoesOn-none : (p : Progress) → GoesOn 0 p p
-GoesOn-none p = record { weights = refl; orders = λ are. are; few = omega arith }
 
 pub GoesOn-more : (a b : ℕ) (p q : Progress) → a ≤ b → GoesOn a p q → GoesOn b p q
 GoesOn-more a b p q more goes = record { weights = goes.weights; orders = goes.orders; few = omega (arith, more, goes.few) }

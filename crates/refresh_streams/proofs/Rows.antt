@@ -19,13 +19,6 @@ insert_steps-row name n bytes rest key tuple begins =
     ap (line_steps (insert_says name) n) begins.lines
     ∙ ap (λ v. row_step name n v ∷ line_steps (insert_says name) (n + 1) (lines_of rest)) begins.value
 
-pub insert_steps-bad : (name : List ℕ) (n : ℕ) (bytes rest : List ℕ) (f : LineFault) → Begins bytes rest (Err f)
-    → line_steps (insert_says name) n (lines_of bytes)
-    ≡ Stops (Bad name n (fault_number f) (field_number f)) ∷ line_steps (insert_says name) (n + 1) (lines_of rest)
-insert_steps-bad name n bytes rest f begins =
-    ap (line_steps (insert_says name) n) begins.lines
-    ∙ ap (λ v. row_step name n v ∷ line_steps (insert_says name) (n + 1) (lines_of rest)) begins.value
-
 -- a drop of its order
 pub delete_steps-first : (name : List ℕ) (n : ℕ) (bytes rest : List ℕ) (order : Option ℕ)
     → IsFirstOrder bytes rest order

@@ -42,10 +42,6 @@ Reached-stop steps xs rest p now trouble reached stopped =
     ∙ after_steps-append xs rest now
     ∙ ap (λ r. r >>= after_steps rest) stopped
 
--- all are made
-pub Reached-end : (steps : List Step) (p now : Progress) → Reached steps [] p now → after_steps steps p ≡ Ok now
-Reached-end steps p now reached = ap (λ s. after_steps s p) (reached.cut ∙ append-nil reached.made) ∙ reached.progress
-
 -- what a part meets the whole meets
 pub Meets-within : (steps xs rest : List Step) (p now : Progress) (file : List ℕ)
     → Reached steps (xs ++ rest) p now → Meets xs now file → Meets steps p file

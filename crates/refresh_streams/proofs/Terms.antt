@@ -11,12 +11,6 @@ pub with_terms-none : (terms : List (List ℕ)) → with_terms None terms ≡ No
 with_terms-none [] = refl
 with_terms-none (term ∷ terms) = refl
 
--- nor with a bad range
-pub with_range-none : (p : Predicate) (column : Column) (before : Option Range)
-    → with_range p column before None ≡ None
-with_range-none p column None = refl
-with_range-none p column (Some range) = refl
-
 -- two points at a place cut there
 pub cut-here : (text : List ℕ) (at : ℕ) → begins_with_points (drop at text) ≡ true
     → cut_at_points (drop at text) ≡ ([], Some (drop (at + 2) text))

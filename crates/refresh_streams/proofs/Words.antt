@@ -24,13 +24,6 @@ pub words_of-one : (bytes : List ℕ) → count_by is_space bytes ≡ 0 → word
 words_of-one bytes none =
     only (words_of bytes) bytes (join_with_byte-slice_split 32 bytes) (omega (arith, none, length-words_of bytes))
 
--- what stands behind the first word and its space
-pub behind-word : (word rest : List ℕ) → drop (length word + 1) (word ++ 32 ∷ rest) ≡ rest
-behind-word [] rest = refl
-behind-word (b ∷ word) rest =
-    let next : suc (length word) + 1 ≡ suc (length word + 1) = omega arith in
-    rw next (behind-word word rest)
-
 -- nothing stands behind a word alone
 pub behind-last : (line : List ℕ) → drop (length line + 1) line ≡ []
 behind-last [] = refl

@@ -10,7 +10,8 @@ use Rattle.refresh_streams.proofs.reader.Reading.add_script.Goals as goal
 pub loop-rest-preserved : goal.loop-rest-preserved
 loop-rest-preserved g c =
     let so_far = c.loop-rest.invariant in
-    let steps : Contents → List Step = λ contents. line_steps (script_says contents c.args.name.now) 1 (lines_of c.args.bytes.now) in
+    let steps : Contents → List Step =
+    λ contents. line_steps (script_says contents c.args.name.now) 1 (lines_of c.args.bytes.now) in
     let n = c.loop-rest.number + 1 in
     let line = c.split_line.result.0.now in
     let others = lines_of c.split_line.result.1.now in record {
