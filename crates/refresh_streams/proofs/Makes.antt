@@ -1,12 +1,12 @@
 -- How calls that make the parts of a reading make the whole.
-use Rattle.std.proofs.Common.{◌≡◌, ◌⊎◌, ◌∙◌, ℕ, ◌+◌, ◌-◌, ◌≤◌, List, [], ◌∷◌, ◌++◌, Option, Some, None, Vec, Result, Ok, Err, append-nil, refl, sym, ap, subst, inl, inr, arith}
+use Rattle.std.proofs.Common.{◌≡◌, ◌⊎◌, ◌∙◌, ℕ, ◌+◌, ◌≤◌, List, [], ◌∷◌, ◌++◌, Result, Ok, Err, append-nil, sym, ap, subst, inl, inr, arith}
 use Rattle.cubit_io.specs.Count.{Rose}
 use Rattle.cubit_io.specs.Held.{Held, IsMissing}
-use Rattle.refresh_streams.specs.Reading.{Contents, WhereTold, Trouble, Bad, Step, Opens, Stops, Progress, after_steps, steps_of_bytes, steps_of_file, script_steps, start, Reached, Meets, Reads}
+use Rattle.refresh_streams.specs.Reading.{Contents, WhereTold, Bad, Step, Opens, Progress, after_steps, steps_of_bytes, steps_of_file, Reached, Meets}
 use Rattle.refresh_streams.specs.Makes.{NotOpened, Makes, MakesAlone, GoesOn}
 use Rattle.refresh_streams.specs.declared.stop.ScriptStop.{ScriptStop}
 use Rattle.refresh_streams.specs.declared.stop.ScriptStop.TheVariants as stop
-use Rattle.refresh_streams.proofs.Steps.{Reached-start, Reached-stop, Reached-end, Meets-within, Meets-first}
+use Rattle.refresh_streams.proofs.Steps.{Reached-stop, Meets-within, Meets-first}
 
 -- a part that stops stops the whole
 pub MakesAlone-stop : (steps xs rest : List Step) (p now next next' : Progress) (e : ScriptStop)
@@ -95,4 +95,8 @@ GoesOn-then a b c p q r few first second = record {
 }
 
 pub GoesOn-more : (a b : ℕ) (p q : Progress) → a ≤ b → GoesOn a p q → GoesOn b p q
-GoesOn-more a b p q more goes = record { weights = goes.weights; orders = goes.orders; few = omega (arith, more, goes.few) }
+GoesOn-more a b p q more goes = record {
+  weights = goes.weights;
+  orders = goes.orders;
+  few = omega (arith, more, goes.few);
+}

@@ -1,14 +1,12 @@
 -- What the first line of a refresh file asks for.
-use Rattle.std.proofs.Common.{◌≡◌, ◌∙◌, ℕ, ◌+◌, List, [], ◌∷◌, ◌++◌, Option, Some, None, Ok, Err, refl, ap}
+use Rattle.std.proofs.Common.{◌≡◌, ◌∙◌, ℕ, ◌+◌, List, ◌∷◌, Option, Ok, ap}
 use Rattle.cubit_base.specs.Key.{KeyValue}
 use Rattle.cubit_base.specs.Tuple.{TupleValue}
-use Rattle.cubit_base.specs.declared.command.Command.TheVariants.{Insert, DropOrder}
-use Rattle.tbl_text.specs.declared.line.LineFault.{LineFault}
+use Rattle.cubit_base.specs.declared.command.Command.TheVariants.{Insert}
 use Rattle.tbl_text.specs.DeleteFile.{IsFirstOrder}
 use Rattle.tbl_text.specs.FirstRow.{Begins}
-use Rattle.tbl_text.specs.Line.{fault_number}
 use Rattle.tbl_text.specs.Lines.{lines_of}
-use Rattle.refresh_streams.specs.Reading.{Bad, Asks, Stops, field_number, row_step, insert_says, order_step, delete_says, line_steps}
+use Rattle.refresh_streams.specs.Reading.{Asks, row_step, insert_says, order_step, delete_says, line_steps}
 
 -- an insert of its row
 pub insert_steps-row : (name : List ℕ) (n : ℕ) (bytes rest : List ℕ) (key : KeyValue) (tuple : TupleValue)

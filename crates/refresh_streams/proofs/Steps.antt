@@ -1,5 +1,5 @@
 -- How the steps of a reading make the whole.
-use Rattle.std.proofs.Common.{◌≡◌, ◌∙◌, ℕ, ◌+◌, ◌≤◌, List, [], ◌∷◌, ◌++◌, Result, Ok, Err, refl, sym, ap, subst, append_assoc, append-nil}
+use Rattle.std.proofs.Common.{◌≡◌, ◌∙◌, ℕ, ◌+◌, List, [], ◌∷◌, ◌++◌, Result, Ok, Err, refl, sym, ap, subst, append_assoc}
 use Rattle.refresh_streams.specs.Reading.{◌>>=◌, Trouble, Step, Opens, Progress, after_step, after_steps, line_steps, Reached, Meets}
 
 step-append : (r : Result Progress Trouble) (steps more : List Step)

@@ -1,10 +1,7 @@
 -- Terms, one after another, and the two points in one of them.
-use Rattle.std.proofs.Common.{◌≡◌, ◌∙◌, ℕ, zero, suc, ◌+◌, ◌<◌, true, false, List, [], ◌∷◌, ◌++◌, length, take, drop, Option, Some, None, refl, ap, arith}
+use Rattle.std.proofs.Common.{◌≡◌, ℕ, zero, suc, ◌+◌, ◌<◌, true, false, List, [], ◌∷◌, ◌++◌, length, take, drop, Option, Some, None, refl, ap, arith}
 use Rattle.std.proofs.lemmas.Bool.{false≢true}
-use Rattle.cubit_base.specs.declared.predicate.Predicate.{Predicate}
-use Rattle.cubit_base.specs.declared.predicate.Range.{Range}
-use Rattle.refresh_streams.specs.Term.{begins_with_points, cut_at_points, with_range, with_terms}
-use Rattle.refresh_streams.specs.declared.term.Column.{Column}
+use Rattle.refresh_streams.specs.Term.{begins_with_points, cut_at_points, with_terms}
 
 -- after a bad term there is no predicate
 pub with_terms-none : (terms : List (List ℕ)) → with_terms None terms ≡ None

@@ -1,5 +1,5 @@
 -- The words of a line, by how many there are.
-use Rattle.std.proofs.Common.{◌≡◌, ◌≢◌, ◌∙◌, ℕ, suc, ◌+◌, ◌<◌, ◌≤◌, List, [], ◌∷◌, ◌++◌, length, drop, count_by, refl, sym, ap, ne_eqb, eq-eqb, le-leb, Bool, true, false, ◌==◌, Ok, if◌then◌else◌, IsUtf8, arith}
+use Rattle.std.proofs.Common.{◌≡◌, ◌≢◌, ℕ, suc, ◌+◌, ◌<◌, ◌≤◌, List, [], ◌∷◌, length, drop, count_by, refl, ap, ne_eqb, eq-eqb, le-leb, Bool, true, false, ◌==◌, Ok, if◌then◌else◌, IsUtf8, arith}
 use Rattle.std.specs.List.{join_with_byte}
 use Rattle.std.specs.Str.{is_utf8}
 use Rattle.std.proofs.lemmas.Bool.{false≢true, lt-leb}

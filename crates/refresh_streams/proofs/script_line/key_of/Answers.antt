@@ -1,4 +1,4 @@
-use Rattle.std.proofs.Common.{◌≡◌, refl, sym, arith}
+use Rattle.std.proofs.Common.{refl, sym, arith}
 use Rattle.tbl_text.specs.Values.{words_of}
 use Rattle.refresh_streams.proofs.Words.{length-words_of, words_of-one, key_of-wrong}
 use Rattle.refresh_streams.proofs.script_line.key_of.Goals as goal

@@ -1,4 +1,4 @@
-use Rattle.std.proofs.Common.{◌≡◌, ◌∙◌, ap, sym, Ok}
+use Rattle.std.proofs.Common.{◌∙◌, ap, sym, Ok}
 use Rattle.refresh_streams.proofs.Words.{name_of-text, name_of-other}
 use Rattle.refresh_streams.proofs.script_line.name_of.Goals as goal
 

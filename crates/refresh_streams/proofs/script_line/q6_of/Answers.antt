@@ -1,4 +1,4 @@
-use Rattle.std.proofs.Common.{◌≡◌, sym, arith}
+use Rattle.std.proofs.Common.{sym, arith}
 use Rattle.tbl_text.specs.Values.{words_of}
 use Rattle.refresh_streams.proofs.Words.{length-words_of, words_of-one, q6_of-wrong}
 use Rattle.refresh_streams.proofs.script_line.q6_of.Goals as goal

@@ -1,6 +1,5 @@
-use Rattle.std.proofs.Common.{◌≡◌, ◌≤◌, ◌<◌, ◌∙◌, length, refl, ap, sym, arith}
+use Rattle.std.proofs.Common.{◌≤◌, ◌<◌, length, refl, sym, arith}
 use Rattle.tbl_text.specs.Values.{words_of}
-use Rattle.refresh_streams.specs.ScriptLine.{or_bad_term}
 use Rattle.refresh_streams.proofs.Words.{length-words_of, query_of-many, query_of-few}
 use Rattle.refresh_streams.proofs.script_line.query_of.Goals as goal
 

@@ -1,4 +1,4 @@
-use Rattle.std.proofs.Common.{◌≡◌, ◌≤◌, length, refl, arith}
+use Rattle.std.proofs.Common.{◌≤◌, length, refl, arith}
 use Rattle.tbl_text.specs.Values.{words_of}
 use Rattle.refresh_streams.proofs.Words.{length-words_of, merge_of-some}
 use Rattle.refresh_streams.proofs.script_line.verb_asks.Goals as goal

@@ -1,4 +1,4 @@
-use Rattle.std.proofs.Common.{◌≡◌, arith}
+use Rattle.std.proofs.Common.{arith}
 use Rattle.refresh_streams.proofs.Words.{words_of-one, behind-last}
 use Rattle.refresh_streams.proofs.script_line.words_ask.Goals as goal
 

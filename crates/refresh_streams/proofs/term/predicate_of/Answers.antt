@@ -1,4 +1,4 @@
-use Rattle.std.proofs.Common.{◌≡◌, ◌∙◌, Some, sym, ap, arith}
+use Rattle.std.proofs.Common.{◌∙◌, Some, sym, ap, arith}
 use Rattle.tbl_text.specs.Values.{words_of}
 use Rattle.refresh_streams.specs.Term.{with_terms}
 use Rattle.refresh_streams.proofs.Terms.{with_terms-none}

@@ -1,10 +1,8 @@
-use Rattle.std.proofs.Common.{◌≡◌, ◌∙◌, ◌+◌, ◌≤◌, List, [], ◌∷◌, length, Ok, Err, refl, sym, ap, arith}
-use Rattle.cubit_base.specs.declared.command.Command.TheVariants.{Insert, DropOrder}
+use Rattle.std.proofs.Common.{◌∙◌, ◌+◌, [], ◌∷◌, ap}
+use Rattle.cubit_base.specs.declared.command.Command.TheVariants.{DropOrder}
 use Rattle.tbl_text.specs.Lines.{lines_of}
-use Rattle.refresh_streams.specs.Reading.{Asks, Opens, order_step, line_steps, insert_says, delete_says, script_says}
-use Rattle.refresh_streams.proofs.Makes.{MakesAlone-rest, Makes-stop, Makes-file, Makes-unopened, GoesOn-then, GoesOn-more}
-use Rattle.refresh_streams.proofs.Rows.{insert_steps-row, delete_steps-first}
-use Rattle.refresh_streams.proofs.Steps.{Reached-then, Reached-more}
+use Rattle.refresh_streams.specs.Reading.{Asks, order_step, line_steps, delete_says}
+use Rattle.refresh_streams.proofs.Rows.{delete_steps-first}
 use Rattle.refresh_streams.proofs.reader.Reading.add_drop.Goals as goal
 
 pub returns-in-Ok-clause-value : goal.returns-in-Ok-clause-value

@@ -1,4 +1,4 @@
-use Rattle.std.proofs.Common.{◌≡◌, ◌+◌, ◌≤◌, length}
+use Rattle.std.proofs.Common.{◌+◌, ◌≤◌, length}
 use Rattle.tbl_text.specs.Lines.{lines_of}
 use Rattle.refresh_streams.specs.Makes.{GoesOn}
 use Rattle.refresh_streams.specs.Reading.{line_steps, delete_says, Reached}

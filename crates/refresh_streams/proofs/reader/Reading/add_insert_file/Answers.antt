@@ -1,10 +1,5 @@
-use Rattle.std.proofs.Common.{◌≡◌, ◌∙◌, ◌+◌, ◌≤◌, List, [], ◌∷◌, length, Ok, Err, refl, sym, ap, subst, arith}
-use Rattle.cubit_base.specs.declared.command.Command.TheVariants.{Insert, DropOrder}
-use Rattle.tbl_text.specs.Lines.{lines_of}
-use Rattle.refresh_streams.specs.Reading.{Asks, Opens, order_step, line_steps, insert_says, delete_says, script_says, Reached}
-use Rattle.refresh_streams.proofs.Makes.{MakesAlone-rest, Makes-stop, Makes-file, Makes-unopened, GoesOn-then, GoesOn-more}
-use Rattle.refresh_streams.proofs.Rows.{insert_steps-row, delete_steps-first}
-use Rattle.refresh_streams.proofs.Steps.{Reached-then, Reached-more, line_steps-next}
+use Rattle.refresh_streams.specs.Reading.{insert_says}
+use Rattle.refresh_streams.proofs.Makes.{Makes-unopened}
 use Rattle.refresh_streams.proofs.reader.Reading.add_insert_file.Goals as goal
 
 pub returns-in-Err-clause-value : goal.returns-in-Err-clause-value

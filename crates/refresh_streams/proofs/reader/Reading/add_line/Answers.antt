@@ -1,7 +1,5 @@
 use Rattle.std.proofs.Common.{◌≤◌, ◌-◌, Result, Ok, Err, OnOk, arith}
 use Rattle.cubit_base.specs.Command.{weight_of}
-use Rattle.refresh_streams.specs.Makes.{GoesOn}
-use Rattle.refresh_streams.specs.Reading.{Progress}
 use Rattle.refresh_streams.specs.declared.stop.ScriptStop.{ScriptStop}
 use Rattle.refresh_streams.proofs.Makes.{GoesOn-more}
 use Rattle.refresh_streams.proofs.reader.Reading.add_line.Goals as goal
