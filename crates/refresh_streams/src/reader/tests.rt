@@ -35,11 +35,12 @@ fn is_bad(
 ) -> Result<(), Fail> {
     let alloc = rt.alloc();
     let mut files = files_of(alloc, held)?;
-    match script_of(alloc, &mut files, "S", room) {
+    let read = script_of(alloc, &mut files, "S", room);
+    match &read {
         Err(ScriptStop::Bad(file, line, fault, fields)) => {
             assert_eq!(rt; file.as_bytes(), wanted.0.as_bytes(), "for {wanted:?}");
             assert_eq!(rt;
-                (line, fault, fields),
+                (*line, *fault, *fields),
                 (wanted.1, wanted.2, wanted.3),
                 "for {wanted:?}"
             );
@@ -66,6 +67,14 @@ const ALL: Predicate = Predicate {
     flag: None,
     status: None,
 };
+
+// The script asks for this command alone.
+fn asks_for(rt: &(impl Abort + AllocGlobal), text: &str, command: Command) -> Result<(), Fail> {
+    let read = script(rt.alloc(), &[("S", text.as_bytes())], ROOM)?;
+    assert_eq!(rt; read.len(), 1, "of {text:?}");
+    assert_eq!(rt; read.get(0).copied(), Some(command), "of {text:?}");
+    Ok(())
+}
 
 #[test]
 fn good_lines(rt: HostRuntime) -> Result<(), Fail> {
@@ -152,9 +161,7 @@ fn good_lines(rt: HostRuntime) -> Result<(), Fail> {
     for (line, command) in lines {
         for end in ["", "\n", "\r\n", "\r"] {
             let text = format!(in alloc; "# a comment\n\n{line}{end}")?;
-            let read = script(alloc, &[("S", text.as_bytes())], ROOM)?;
-            assert_eq!(rt; read.len(), 1, "of {line:?}");
-            assert_eq!(rt; read.get(0).copied(), Some(command), "of {line:?}");
+            asks_for(&rt, text.as_str(), command)?;
         }
     }
     Ok(())
@@ -364,7 +371,8 @@ fn missing_files(rt: HostRuntime) -> Result<(), Fail> {
     ];
     for (name, wanted) in [("S", "none"), ("no script", "no script")] {
         let mut files = files_of(alloc, &held)?;
-        match script_of(alloc, &mut files, name, ROOM) {
+        let read = script_of(alloc, &mut files, name, ROOM);
+        match &read {
             Err(ScriptStop::Fault(file)) => {
                 assert_eq!(rt; file.as_bytes(), wanted.as_bytes());
             }
@@ -372,8 +380,9 @@ fn missing_files(rt: HostRuntime) -> Result<(), Fail> {
         }
     }
     let mut files = files_of(alloc, &held)?;
-    match script_of(alloc, &mut files, "T", ROOM) {
-        Err(ScriptStop::Bad(_, line, fault, _)) => assert_eq!(rt; (line, fault), (1, 14)),
+    let read = script_of(alloc, &mut files, "T", ROOM);
+    match &read {
+        Err(ScriptStop::Bad(_, line, fault, _)) => assert_eq!(rt; (*line, *fault), (1, 14)),
         _ => assert!(rt; false, "the first line is bad"),
     }
     Ok(())
