@@ -69,10 +69,10 @@ const ALL: Predicate = Predicate {
 };
 
 // The script asks for this command alone.
-fn asks_for(rt: &(impl Abort + AllocGlobal), text: &str, command: Command) -> Result<(), Fail> {
+fn asks_for(rt: &(impl Abort + AllocGlobal), text: &str, command: &Command) -> Result<(), Fail> {
     let read = script(rt.alloc(), &[("S", text.as_bytes())], ROOM)?;
     assert_eq!(rt; read.len(), 1, "of {text:?}");
-    assert_eq!(rt; read.get(0).copied(), Some(command), "of {text:?}");
+    assert_eq!(rt; read.get(0).copied(), Some(*command), "of {text:?}");
     Ok(())
 }
 
@@ -161,7 +161,7 @@ fn good_lines(rt: HostRuntime) -> Result<(), Fail> {
     for (line, command) in lines {
         for end in ["", "\n", "\r\n", "\r"] {
             let text = format!(in alloc; "# a comment\n\n{line}{end}")?;
-            asks_for(&rt, text.as_str(), command)?;
+            asks_for(&rt, text.as_str(), &command)?;
         }
     }
     Ok(())
