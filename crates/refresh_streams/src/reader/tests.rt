@@ -386,3 +386,28 @@ fn missing_files(rt: HostRuntime) -> Result<(), Fail> {
     }
     Ok(())
 }
+
+// Where a call of the outside fails, the file that is read then is named, and reading again goes well.
+#[test]
+fn each_call_of_the_outside_fails(rt: HostRuntime) -> Result<(), Fail> {
+    let alloc = rt.alloc();
+    for call in 1..7u32 {
+        let wanted = if call <= 3 { "S" } else { "U" };
+        let mut files = MemoryFiles::make(alloc, [call].to_vec(alloc)?);
+        files.keep(alloc, "S", b"drop 1\ninsert-file U\n")?;
+        files.keep(alloc, "U", GOOD_ROW.as_bytes())?;
+        let failed = script_of(alloc, &mut files, "S", ROOM);
+        match &failed {
+            Err(ScriptStop::Fault(file)) => {
+                assert_eq!(rt; file.as_bytes(), wanted.as_bytes(), "call {call} fails");
+            }
+            _ => assert!(rt; false, "call {call} fails"),
+        }
+        let again = script_of(alloc, &mut files, "S", ROOM);
+        match &again {
+            Ok(script) => assert_eq!(rt; script.len(), 2, "call {call} has failed"),
+            Err(_) => assert!(rt; false, "call {call} has failed"),
+        }
+    }
+    Ok(())
+}
