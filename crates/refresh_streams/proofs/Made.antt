@@ -1,7 +1,6 @@
 -- One order or line more.
-use Rattle.std.proofs.Common.{◌≡◌, ℕ, ◌+◌, suc, List, [], ◌∷◌, ◌++◌, Some, ap, arith}
-use Rattle.cubit_base.specs.Table.{Row}
-use Rattle.refresh_streams.specs.Generator.{◌>>=◌, done, Drawn, draw, drawn_tuple, drawn_command, lines_made, orders_made, merge_after, commands_made}
+use Rattle.std.proofs.Common.{◌≡◌, ℕ, ◌+◌, suc, [], ◌∷◌, ◌++◌, Some, ap, arith}
+use Rattle.refresh_streams.specs.Generator.{draw, drawn_tuple, drawn_command, lines_made, orders_made, merge_after, commands_made}
 
 pub lines_made_next : (order n state : ℕ) → let before = lines_made order n state in
     let tuple = drawn_tuple before.1 in

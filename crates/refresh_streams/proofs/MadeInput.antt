@@ -1,16 +1,15 @@
 -- What holds of each made table and script.
-use Rattle.std.proofs.Common.{◌≡◌, ◌≢◌, ℕ, zero, suc, ◌+◌, ◌*◌, ◌<◌, ◌≤◌, ◌%◌, Bool, true, false, ◌==◌, cond, List, [], ◌∷◌, ◌++◌, All, Some, IsSome, refl, mod-lt, append_assoc, arith}
-use Rattle.std.specs.List.{AllPairs, sum_by}
+use Rattle.std.proofs.Common.{ℕ, zero, suc, ◌+◌, ◌*◌, ◌<◌, ◌≤◌, ◌%◌, Bool, true, false, ◌==◌, cond, List, [], ◌∷◌, ◌++◌, All, Some, IsSome, refl, mod-lt, append_assoc, arith}
+use Rattle.std.specs.List.{AllPairs}
 use Rattle.std.proofs.lemmas.List.Elements.{All-nil, All-cons, All-append, All-push}
 use Rattle.std.proofs.lemmas.List.Quantifiers.{all_pairs_push}
 use Rattle.std.proofs.lemmas.List.{append-nil}
 use Rattle.std.proofs.lemmas.List.Sums.{sum_by-append, sum_by-cons}
-use Rattle.cubit_base.specs.Key.{KeyValue}
 use Rattle.cubit_base.specs.Table.{Row, HasDistinctKeys}
 use Rattle.cubit_base.specs.Command.{weight_of}
 use Rattle.cubit_base.specs.declared.command.Command.{Command}
 use Rattle.cubit_base.specs.declared.command.Command.TheVariants.{Insert, Update, DropOrder, Sum, Q6, Merge}
-use Rattle.refresh_streams.specs.Generator.{◌>>=◌, done, Drawn, draw, drawn_tuple, drawn_query, drawn_command, first_line_of, everything, lines_made, orders_made, merge_after, commands_made}
+use Rattle.refresh_streams.specs.Generator.{◌>>=◌, done, draw, drawn_tuple, drawn_query, drawn_command, first_line_of, everything, lines_made, orders_made, merge_after, commands_made}
 use Rattle.refresh_streams.specs.Script.{weights, DropsSomeOrder}
 
 -- keys in their order, as numbers

@@ -101,7 +101,8 @@ fn push_command(script: &mut Script, command: Command, order: u32) -> Result<(),
     Ok(())
 }
 
-fn everything() -> Predicate
+/// All rows match.
+pub(crate) fn everything() -> Predicate
     ensures { result ≡ everything }
 {
     Predicate {

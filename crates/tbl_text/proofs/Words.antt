@@ -1,13 +1,14 @@
 -- How a space cuts off the first word.
-use Rattle.std.proofs.Common.{◌≡◌, ℕ, ◌+◌, ◌<◌, ◌≤◌, suc, Bool, true, false, cond, not, List, [], ◌∷◌, length, take, drop, count_by, refl, sym, arith}
+use Rattle.std.proofs.Common.{◌≡◌, ℕ, ◌+◌, ◌<◌, ◌≤◌, suc, Bool, true, false, cond, not, List, [], ◌∷◌, ◌++◌, get_or, length, take, drop, count_by, refl, sym, subst, eqb-true, arith}
 use Rattle.std.specs.List.{position_or_len, onto_first}
 use Rattle.std.proofs.lemmas.Bool.{false≢true}
-use Rattle.std.proofs.lemmas.List.Sums.{sum_by-cons}
+use Rattle.std.proofs.lemmas.List.Sums.{sum_by-cons, split_at_first, passes_at_first}
 use Rattle.tbl_text.specs.Values.{is_space, words_of}
 
 -- the first word ends at a place where a space stands
 pub record IsWordEnd (bytes : List ℕ) (at : ℕ) : Type 0 where
   pub below : at < length bytes
+  pub cut : bytes ≡ take at bytes ++ 32 ∷ drop (at + 1) bytes
   pub words : words_of bytes ≡ take at bytes ∷ words_of (drop (at + 1) bytes)
   pub spaces : count_by is_space bytes ≡ 1 + count_by is_space (drop (at + 1) bytes)
 
@@ -48,7 +49,12 @@ first-word_end (b ∷ bytes) some =
     let count = sum_by-cons (λ x. cond (is_space x) 1 0) b bytes in
     let more : is_space b ≡ false → IsWordEnd bytes (position_or_len is_space bytes) =
     λ other. first-word_end bytes (some-cond (is_space b) _ (rw count at some) other) in
+    let at = position_or_len is_space (b ∷ bytes) in
+    let below : at < length (b ∷ bytes) = below-cond (is_space b) _ (length bytes) (λ other. (more other).below) in
+    let space : get_or (b ∷ bytes) at 0 ≡ 32 = eqb-true _ _ (passes_at_first is_space (b ∷ bytes) 0 below) in
     record {
+      cut = subst (λ x. b ∷ bytes ≡ take at (b ∷ bytes) ++ x ∷ drop (at + 1) (b ∷ bytes)) space
+          (split_at_first is_space (b ∷ bytes) 0 below);
       below = below-cond (is_space b) _ (length bytes) (λ other. (more other).below);
       words = words-cond (is_space b) b _ bytes (λ other. (more other).words);
       spaces = rw count (spaces-cond (is_space b) b _ _ bytes refl (λ other. (more other).spaces));

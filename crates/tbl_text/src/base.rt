@@ -111,10 +111,10 @@ fn read_lines(alloc: Global, bytes: &[u8], row_limit: u32) -> Result<Reading, Me
     Ok(Reading { rows, end })
 }
 
-// The key and the tuple of the first line and what follows the line, or the line's first fault: by the fast reader, and
-// where that gives up by the careful one.
+/// The key and the tuple of the first line and what follows the line, or the line's first fault: by the fast reader, and
+/// where that gives up by the careful one. It takes no memory.
 #[inline(always)]
-fn first_row(bytes: &[u8]) -> Result<(Key, Tuple, &[u8]), LineFault>
+pub fn first_row(bytes: &[u8]) -> Result<(Key, Tuple, &[u8]), LineFault>
     requires some { bytes.now ≢ [] }
     requires few { length bytes.now ≤ u32.MAX }
     ensures { IsFirstRow bytes.now result }

@@ -1,5 +1,5 @@
 //! Files of deletes: in each line the key of an order.
-ghost use Rattle.std.specs.Prelude.{◌≡◌, ◌≢◌, ◌<◌, ◌≤◌, [], length};
+ghost use Rattle.std.specs.Prelude.{◌≡◌, ◌≢◌, ◌<◌, ◌≤◌, [], length, IfSome};
 ghost use Rattle.tbl_text.specs.DeleteFile.{without_bar, order_of_number, order_of_line, IsOrdersResult, IsFirstOrder};
 
 use crate::{Memory, first_line, integer_of};
@@ -45,10 +45,11 @@ pub fn delete_keys_of(alloc: Global, bytes: &[u8]) -> Result<RowList, KeyFault>
     Ok(keys)
 }
 
-// The order of the first line, if it has one, and what follows the line.
-fn first_order(bytes: &[u8]) -> (Option<u32>, &[u8])
+/// The order of the first line, at least 1, if the line has one, and what follows the line. It takes no memory.
+pub fn first_order(bytes: &[u8]) -> (Option<u32>, &[u8])
     requires { bytes.now ≢ [] }
     ensures value { IsFirstOrder bytes.now result.1.now result.0 }
+    ensures range { IfSome result.0 (λ order. 1 ≤ order) }
     ensures shorter { length result.1.now < length bytes.now }
 {
     let Some(line) = first_line(bytes) else {
@@ -57,15 +58,17 @@ fn first_order(bytes: &[u8]) -> (Option<u32>, &[u8])
     (order_of_line(&bytes[..line.len]), &bytes[line.next..])
 }
 
-/// The order of a line of deletes without its line end: an integer, then a bar or nothing.
-pub(crate) fn order_of_line(line: &[u8]) -> Option<u32>
-    ensures { result ≡ order_of_line line.now }
+// The order of a line of deletes without its line end: an integer, then a bar or nothing.
+fn order_of_line(line: &[u8]) -> Option<u32>
+    ensures value { result ≡ order_of_line line.now }
+    ensures range { IfSome result (λ order. 1 ≤ order) }
 {
     order_of_number(integer_of(without_bar(line)))
 }
 
 fn order_of_number(number: Option<u64>) -> Option<u32>
-    ensures { result ≡ order_of_number number }
+    ensures value { result ≡ order_of_number number }
+    ensures range { IfSome result (λ order. 1 ≤ order) }
 {
     match number {
         Some(n) if 1 <= n && n <= 4_294_967_295 => Some(n as u32),

@@ -67,7 +67,7 @@ pub(crate) fn is_text(field: &[u8]) -> bool
 
 /// The flag that a letter stands for.
 #[inline(always)]
-pub(crate) fn flag_of(field: &[u8]) -> Option<Flag>
+pub fn flag_of(field: &[u8]) -> Option<Flag>
     ensures { result ≡ flag_value field.now }
 {
     // No branch depends on which of the letters it is, since that cannot be foretold.
@@ -90,7 +90,7 @@ pub(crate) fn flag_of(field: &[u8]) -> Option<Flag>
 
 /// The status that a letter stands for.
 #[inline(always)]
-pub(crate) fn status_of(field: &[u8]) -> Option<LineStatus>
+pub fn status_of(field: &[u8]) -> Option<LineStatus>
     ensures { result ≡ status_value field.now }
 {
     match field {

@@ -1,5 +1,5 @@
 //! The values of a tuple in a command, with one space between each two.
-ghost use Rattle.std.specs.Prelude.{◌≡◌, ◌+◌, ◌<◌, ◌≤◌, ◌∷◌, length, count_by, IfErr};
+ghost use Rattle.std.specs.Prelude.{◌≡◌, ◌+◌, ◌<◌, ◌≤◌, ◌∷◌, ◌++◌, length, count_by, IfErr};
 ghost use Rattle.std.specs.List.{position_or_len};
 ghost use Rattle.tbl_text.specs.Line.{fault_number};
 ghost use Rattle.tbl_text.specs.Values.{is_space, words_of, tuple_value, listed_values};
@@ -52,9 +52,22 @@ fn split(bytes: &[u8]) -> Values<'_>
     }
 }
 
-// The first word, and what follows its space.
-fn first_word(bytes: &[u8]) -> (&[u8], &[u8])
+/// How many spaces there are: one fewer than words.
+pub fn space_count(bytes: &[u8]) -> u32
+    requires { length bytes.now ≤ u32.MAX }
+    ensures { result ≡ count_by is_space bytes.now }
+{
+    let mut spaces = 0u32;
+    for b in bytes {
+        spaces += u32::from(*b == b' ');
+    }
+    spaces
+}
+
+/// The first of two words or more, and what follows its space.
+pub fn first_word(bytes: &[u8]) -> (&[u8], &[u8])
     requires { 1 ≤ count_by is_space bytes.now }
+    ensures cut { bytes.now ≡ result.0.now ++ 32 ∷ result.1.now }
     ensures words { words_of bytes.now ≡ result.0.now ∷ words_of result.1.now }
     ensures spaces { count_by is_space bytes.now ≡ 1 + count_by is_space result.1.now }
 {

@@ -1,4 +1,4 @@
-use Rattle.std.proofs.Common.{refl, sym, arith}
+use Rattle.std.proofs.Common.{refl, arith}
 use Rattle.tbl_text.proofs.Words.{words_of-one}
 use Rattle.tbl_text.proofs.values.split.Goals as goal
 
