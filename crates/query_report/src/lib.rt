@@ -39,6 +39,7 @@ mod answer;
 mod decimal;
 mod journal;
 mod piece;
+mod reader;
 mod refusal;
 mod reply;
 mod reply_table;
