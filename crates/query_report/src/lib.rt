@@ -43,6 +43,7 @@ mod reader;
 mod refusal;
 mod reply;
 mod reply_table;
+mod report;
 mod stop;
 
 pub use answer::answer_line;
@@ -51,5 +52,6 @@ pub use journal::journal_text;
 pub use refusal::{Detail, Refusal};
 pub use reply::{DropLine, Reply, reply_text};
 pub use reply_table::ReplyTable;
+pub use report::{Report, report_of};
 pub use std::alloc::AllocError as Memory;
 pub use stop::Stop;

@@ -1,7 +1,7 @@
 //! The replies of all workers.
-ghost use Rattle.std.specs.Prelude.{◌≡◌, ◌<◌, ◌≤◌, [], ◌∷◌, ◌++◌, length, slice_get, replicate, OnOk, OnErr, IfOk};
+ghost use Rattle.std.specs.Prelude.{◌≡◌, ◌<◌, ◌≤◌, [], ◌∷◌, ◌++◌, length, slice_get, replicate, OnOk, OnErr, IfOk, IfSome, IfNone};
 ghost use Rattle.std.specs.Option.{option_copied};
-ghost use Rattle.query_report.specs.ReplyTable.{added, replies_of};
+ghost use Rattle.query_report.specs.ReplyTable.{EndsInReply, added, replies_of};
 
 use crate::{Memory, Reply};
 use std::alloc::Global;
@@ -9,7 +9,7 @@ use std::marker::Model;
 
 // The replies of one worker, in the order of its commands.
 #[derive(Drop)]
-struct ReplyList {
+pub(crate) struct ReplyList {
     replies: Vec<Reply>,
 }
 
@@ -51,6 +51,20 @@ impl ReplyTable {
         ReplyTable {
             lists: Vec::new(alloc),
         }
+    }
+
+    /// The table of these lists, or none where the last of them is empty.
+    pub(crate) fn of_lists(lists: Vec<ReplyList>) -> Option<ReplyTable>
+        requires { length lists.items ≤ 256 }
+        ensures some { IfSome result (λ table. table ≡ lists.items) }
+        ensures none { IfNone result (EndsInReply lists.items → ⊥) }
+    {
+        if let Some(last) = lists.last() {
+            if last.len() == 0 {
+                return None;
+            }
+        }
+        Some(ReplyTable { lists })
     }
 
     /// The number of lists.
@@ -96,7 +110,7 @@ impl ReplyTable {
 }
 
 impl ReplyList {
-    fn new(alloc: Global) -> ReplyList
+    pub(crate) fn new(alloc: Global) -> ReplyList
         ensures { result ≡ [] }
     {
         ReplyList {
@@ -116,7 +130,7 @@ impl ReplyList {
         self.replies.get(n as usize)
     }
 
-    fn push(&mut self, reply: Reply) -> Result<(), Memory>
+    pub(crate) fn push(&mut self, reply: Reply) -> Result<(), Memory>
         requires { length self.old < 4_294_967_295 }
         ensures ok { OnOk result (self.new ≡ self.old ++ reply ∷ []) }
         ensures err { OnErr result (self.new ≡ self.old) }
