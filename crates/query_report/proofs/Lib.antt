@@ -1,2 +1,4 @@
 mod Calendar
+pub mod Front
+pub mod Reading
 mod Writing

@@ -1,5 +1,5 @@
 -- What it is to read a text from its front.
-use Rattle.std.specs.Prelude.{◌≡◌, ◌⊎◌, ℕ, ◌+◌, ◌-◌, ◌*◌, ◌<◌, ◌==◌, ◌≢◌, Bool, false, ◌&&◌, nat_le, List, [], ◌∷◌, ◌++◌, codes, Option, Some, None}
+use Rattle.std.specs.Prelude.{◌≡◌, ◌⊎◌, ℕ, ◌+◌, ◌-◌, ◌*◌, ◌<◌, ◌≤◌, ◌==◌, ◌≢◌, Bool, false, ◌&&◌, nat_le, List, [], ◌∷◌, ◌++◌, length, slice_index, codes, Option, Some, None}
 use Rattle.query_report.specs.Field.{field}
 
 -- what is left to read, or none once the text was found to be no report
@@ -39,6 +39,10 @@ spelled_after n (b ∷ digits) = spelled_after (n * 10 + (b - 48)) digits
 
 abbrev pub spelled : List ℕ → ℕ
 spelled digits = spelled_after 0 digits
+
+-- how many digits write a number that is read: at most 16, and none of them a leading zero
+abbrev pub IsNumeral : List ℕ → Type 0
+IsNumeral digits = (0 < length digits) × (length digits ≤ 16) × (slice_index digits 0 ≡ 48 → length digits ≡ 1)
 
 -- no digit stands at the front
 abbrev pub EndsNumber : List ℕ → Type 0

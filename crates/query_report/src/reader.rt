@@ -1,9 +1,9 @@
 //! A reader of a text from its front, in one pass and without memory. Once something is asked for that does not stand
 //! there the reader has failed, and stays so: nothing is left to read, and what it answers from then on means nothing.
-ghost use Rattle.std.specs.Prelude.{◌≡◌, ◌≢◌, ◌<◌, ◌≤◌, ◌^◌, ◌↔◌, ◌×◌, ℕ, List, [], ◌∷◌, decimal, length, Some, None, IsTrue, if◌then◌else◌};
+ghost use Rattle.std.specs.Prelude.{◌≡◌, ◌≢◌, ◌<◌, ◌≤◌, ◌^◌, ◌↔◌, ℕ, List, [], ◌∷◌, decimal, length, Some, None, IsTrue, if◌then◌else◌};
 ghost use Rattle.std.specs.List.{AllPass, prefix_len};
 ghost use Rattle.query_report.specs.Field.{field, two_digits};
-ghost use Rattle.query_report.specs.Reading.{Reads, Passes, Anything, EndsNumber, IsNumber, begins, is_digit, spelled};
+ghost use Rattle.query_report.specs.Reading.{Reads, Passes, Anything, EndsNumber, IsNumber, IsNumeral, begins, is_digit, spelled};
 
 mod line;
 mod reply;
@@ -97,7 +97,7 @@ impl<'a> Reader<'a> {
     /// A byte of any value.
     #[inline(always)]
     fn byte(&mut self) -> u8
-        ensures { Reads (λ b. b ∷ []) Anything Anything self.old result self.new }
+        ensures { Reads (λ b. b ∷ []) (λ b. Unit {0}) Anything self.old result self.new }
     {
         match self.rest {
             [b, rest @ ..] => {
@@ -135,12 +135,11 @@ impl<'a> Reader<'a> {
         ensures reads { Reads decimal (λ n. n < 10 ^ 16) EndsNumber self.old result self.new }
         ensures within { result < 10 ^ 16 }
     {
-        let count = digit_count(self.rest);
-        if count == 0 || count > 16 || count > 1 && self.rest[0] == b'0' {
+        let (digits, rest) = self.rest.split_at(digit_count(self.rest));
+        if !is_numeral(digits) {
             self.is_fine = false;
             return 0;
         }
-        let (digits, rest) = self.rest.split_at(count);
         self.rest = rest;
         spelled(digits)
     }
@@ -190,6 +189,17 @@ fn digit_count(bytes: &[u8]) -> usize
         }
     }
     bytes.len()
+}
+
+#[inline(always)]
+fn is_numeral(digits: &[u8]) -> bool
+    ensures { IsTrue result ↔ IsNumeral digits.now }
+{
+    match digits {
+        [] => false,
+        [_] => true,
+        [first, ..] => *first != b'0' && digits.len() <= 16,
+    }
 }
 
 #[inline(always)]

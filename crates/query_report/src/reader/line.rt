@@ -1,5 +1,5 @@
 //! Readers of the lines of a report.
-ghost use Rattle.std.specs.Prelude.{◌≡◌, ◌×◌, ◌<◌, ◌≤◌, false, length, Some, IfOk};
+ghost use Rattle.std.specs.Prelude.{◌≡◌, ◌<◌, ◌≤◌, false, length, Some, IfOk};
 ghost use Rattle.std.specs.List.{AllByRecursion};
 ghost use Rattle.query_report.specs.Journal.{delta_line, place_text, journal_bytes};
 ghost use Rattle.query_report.specs.Reading.{Reads, Anything, EndsNumber, EndsWorker, IsAtWorker, begins};

@@ -1,5 +1,5 @@
 //! Readers of replies.
-ghost use Rattle.std.specs.Prelude.{◌≡◌, ◌≢◌, ◌×◌, ℕ, List, [], ◌∷◌, ◌++◌, length, Some, IfOk, IfSome, IfNone, codes};
+ghost use Rattle.std.specs.Prelude.{◌≡◌, ◌≢◌, ◌<◌, ◌≤◌, ◌+◌, ◌*◌, ℕ, List, [], ◌∷◌, ◌++◌, length, Some, IfOk, IfSome, IfNone, codes};
 ghost use Rattle.std.specs.List.{AllByRecursion};
 ghost use Rattle.query_report.specs.declared.reply.DropLine.{DropLine as ALine};
 ghost use Rattle.query_report.specs.Decimal.{decimal4_text};
