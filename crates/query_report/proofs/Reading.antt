@@ -10,6 +10,11 @@ pub label-ends : (label rest : List ℕ) → IsLabel label → EndsNumber (label
 label-ends [] rest is = absurd is
 label-ends (b ∷ label) rest is = is
 
+pub field-ends : (label : List ℕ) (n : ℕ) (rest : List ℕ) → IsLabel label → EndsNumber (field label n ++ rest)
+unfolding field
+field-ends [] n rest is = absurd is
+field-ends (b ∷ label) n rest is = is
+
 -- a reader has failed, or something is left
 pub left_cases : (left : Left) → (left ≡ None) ⊎ ((rest : List ℕ) × (left ≡ Some rest))
 left_cases None = inl refl
@@ -34,6 +39,10 @@ reads-is {text = text} before' value' after' reads b v a = record {
     let found = reads.finds other rest fit ends (b ∙ e) in (found.0 ∙ v, sym a ∙ found.1);
 }
 
+both : {V W : Type 0} (p q : V × W) → p.0 ≡ q.0 → p.1 ≡ q.1 → p ≡ q
+both {V = V} {W = W} p q first second =
+    let pair : V → W → V × W = λ a b. (a, b) in ap (λ a. pair a p.1) first ∙ ap (λ b. pair q.0 b) second
+
 -- a value behind another
 pub reads-and : {V W : Type 0} {t : V → List ℕ} {u : W → List ℕ} {f : V → Type 0} {g : W → Type 0}
     {ends ends' : List ℕ → Type 0} {before mid after : Left} {v : V} {w : W}
@@ -47,11 +56,8 @@ reads-and {t = t} {u = u} {v = v} {w = w} one two next = record {
     let first = one.finds other.0 (u other.1 ++ rest) fit.0 (next other.1 rest fit.1 ends)
       (e ∙ ap Some (append_assoc (t other.0) (u other.1) rest)) in
     let second = two.finds other.1 rest fit.1 ends first.1 in
-    (both first.0 second.0, second.1);
+    (both other (v, w) first.0 second.0, second.1);
 }
-  where
-    both : {V W : Type 0} {a c : V} {b d : W} → a ≡ c → b ≡ d → (a, b) ≡ (c, d)
-    both e h = cc
 
 -- a value behind a known text
 pub passes-then : {W : Type 0} {text : List ℕ} {u : W → List ℕ} {g : W → Type 0} {ends ends' : List ℕ → Type 0}
@@ -83,14 +89,30 @@ then-passes {t = t} {text = text} {v = v} one two next = record {
 -- what is made of a value that was read
 pub reads-as : {V W : Type 0} {t : V → List ℕ} {f : V → Type 0} {ends : List ℕ → Type 0} {before after : Left} {v : V}
     (text : W → List ℕ) (fits : W → Type 0) (made : W) (parts : W → V) → Reads t f ends before v after
-    → parts made ≡ v → ((x : W) → fits x → f (parts x)) → ((x : W) → text x ≡ t (parts x))
-    → ((x y : W) → parts x ≡ parts y → x ≡ y) → Reads text fits ends before made after
-reads-as {t = t} text fits made parts reads is fit same whole = record {
-  sound = λ rest e. reads.sound rest e ∙ ap (λ bytes. Some (bytes ++ rest)) (sym (same made ∙ ap t is));
+    → text made ≡ t v → ((x : W) → fits x → f (parts x)) → ((x : W) → fits x → text x ≡ t (parts x))
+    → ((x : W) → fits x → parts x ≡ v → x ≡ made) → Reads text fits ends before made after
+reads-as {t = t} text fits made parts reads is fit same only = record {
+  sound = λ rest e. reads.sound rest e ∙ ap (λ bytes. Some (bytes ++ rest)) (sym is);
   finds = λ other rest fits ends e.
-    let found = reads.finds (parts other) rest (fit other fits) ends (e ∙ ap (λ bytes. Some (bytes ++ rest)) (same other)) in
-    (whole other made (found.0 ∙ sym is), found.1);
+    let there = e ∙ ap (λ bytes. Some (bytes ++ rest)) (same other fits) in
+    let found = reads.finds (parts other) rest (fit other fits) ends there in
+    (only other fits found.0, found.1);
 }
+
+-- nothing that fits can be made of it
+pub reads-not : {V W : Type 0} {t : V → List ℕ} {f : V → Type 0} {ends : List ℕ → Type 0} {before mid : Left} {v : V}
+    (text : W → List ℕ) (fits : W → Type 0) (made : W) (after : Left) (parts : W → V) → Reads t f ends before v mid
+    → after ≡ None → ((x : W) → fits x → f (parts x)) → ((x : W) → fits x → text x ≡ t (parts x))
+    → ((x : W) → fits x → parts x ≡ v → ⊥) → Reads text fits ends before made after
+reads-not text fits made after parts reads failed fit same other = record {
+  sound = λ rest e. absurd (none (sym failed ∙ e));
+  finds = λ x rest fits ends e.
+    let there = e ∙ ap (λ bytes. Some (bytes ++ rest)) (same x fits) in
+    absurd (other x fits (reads.finds (parts x) rest (fit x fits) ends there).0);
+}
+  where
+    none : {rest : List ℕ} → None ≡ Some rest → ⊥
+    none e = cc
 
 -- a number behind a label
 pub field-reads : {label : List ℕ} {before mid after : Left} {n : ℕ} (fits : ℕ → Type 0) → Passes label Anything before mid
