@@ -1,6 +1,6 @@
 -- Texts that are read one piece behind another.
-use Rattle.std.proofs.Common.{◌≡◌, ◌≢◌, ◌⊎◌, inl, inr, ℕ, zero, suc, ◌+◌, ◌<◌, ◌≤◌, ◌∙◌, List, [], ◌∷◌, ◌++◌, length, Some, None, decimal, refl, sym, ap, append_assoc, arith}
-use Rattle.std.proofs.lemmas.List.{append-nil}
+use Rattle.std.proofs.Common.{◌≡◌, ◌≢◌, ◌⊎◌, inl, inr, ℕ, zero, suc, ◌+◌, ◌<◌, ◌≤◌, ◌∙◌, List, [], ◌∷◌, ◌++◌, length, Some, None, decimal, refl, sym, ap, subst, append_assoc, arith}
+use Rattle.std.proofs.lemmas.List.{append-nil, length_push}
 use Rattle.std.specs.List.{AllByRecursion}
 use Rattle.query_report.specs.Field.{field, each_text}
 use Rattle.query_report.specs.Reading.{Left, Reads, Passes, Anything, EndsNumber, IsLabel}
@@ -59,6 +59,23 @@ reads-and {t = t} {u = u} {v = v} {w = w} one two next = record {
     (both other (v, w) first.0 second.0, second.1);
 }
 
+-- the same, where a value that fits depends on the one before it
+pub reads-given : {V W : Type 0} {t : V → List ℕ} {u : W → List ℕ} {f : V → Type 0} {g : W → Type 0}
+    {ends ends' : List ℕ → Type 0} {before mid after : Left} {v : V} {w : W} (fits : V × W → Type 0)
+    → Reads t f ends before v mid → Reads u g ends' mid w after → ((p : V × W) → fits p → f p.0)
+    → ((p : V × W) → fits p → p.0 ≡ v → g p.1)
+    → ((p : V × W) (rest : List ℕ) → fits p → ends' rest → ends (u p.1 ++ rest))
+    → Reads (λ (p : V × W). t p.0 ++ u p.1) fits ends' before (v, w) after
+reads-given {t = t} {u = u} {v = v} {w = w} fits one two fit given next = record {
+  sound = λ rest e.
+    one.sound (u w ++ rest) (two.sound rest e) ∙ ap Some (sym (append_assoc (t v) (u w) rest));
+  finds = λ other rest is ends e.
+    let first = one.finds other.0 (u other.1 ++ rest) (fit other is) (next other rest is ends)
+      (e ∙ ap Some (append_assoc (t other.0) (u other.1) rest)) in
+    let second = two.finds other.1 rest (given other is first.0) ends first.1 in
+    (both other (v, w) first.0 second.0, second.1);
+}
+
 -- a value behind a known text
 pub passes-then : {W : Type 0} {text : List ℕ} {u : W → List ℕ} {g : W → Type 0} {ends ends' : List ℕ → Type 0}
     {before mid after : Left} {w : W} → Passes text ends before mid → Reads u g ends' mid w after
@@ -89,14 +106,24 @@ then-passes {t = t} {text = text} {v = v} one two next = record {
 -- what is made of a value that was read
 pub reads-as : {V W : Type 0} {t : V → List ℕ} {f : V → Type 0} {ends : List ℕ → Type 0} {before after : Left} {v : V}
     (text : W → List ℕ) (fits : W → Type 0) (made : W) (parts : W → V) → Reads t f ends before v after
-    → text made ≡ t v → ((x : W) → fits x → f (parts x)) → ((x : W) → fits x → text x ≡ t (parts x))
-    → ((x : W) → fits x → parts x ≡ v → x ≡ made) → Reads text fits ends before made after
+    → ((rest : List ℕ) → after ≡ Some rest → text made ≡ t v) → ((x : W) → fits x → f (parts x))
+    → ((x : W) → fits x → text x ≡ t (parts x)) → ((x : W) → fits x → parts x ≡ v → x ≡ made)
+    → Reads text fits ends before made after
 reads-as {t = t} text fits made parts reads is fit same only = record {
-  sound = λ rest e. reads.sound rest e ∙ ap (λ bytes. Some (bytes ++ rest)) (sym is);
+  sound = λ rest e. reads.sound rest e ∙ ap (λ bytes. Some (bytes ++ rest)) (sym (is rest e));
   finds = λ other rest fits ends e.
     let there = e ∙ ap (λ bytes. Some (bytes ++ rest)) (same other fits) in
     let found = reads.finds (parts other) rest (fit other fits) ends there in
     (only other fits found.0, found.1);
+}
+
+-- fewer texts may follow
+pub reads-before : {V : Type 0} {t : V → List ℕ} {f : V → Type 0} {ends : List ℕ → Type 0} {before after : Left} {v : V}
+    (ends' : List ℕ → Type 0) → Reads t f ends before v after → ((rest : List ℕ) → ends' rest → ends rest)
+    → Reads t f ends' before v after
+reads-before ends' reads less = record {
+  sound = reads.sound;
+  finds = λ other rest fit ends e. reads.finds other rest fit (less rest ends) e;
 }
 
 -- nothing that fits can be made of it
@@ -124,3 +151,89 @@ field-reads {label = label} {n = n} fits one two few =
       sound = both.sound;
       finds = λ other rest fit ends e. both.finds other rest (few other fit) ends e;
     }
+
+-- the items of a list that are read so far: their texts stood before what is left now, and any list whose texts stood
+-- there goes on behind them
+pub record ReadsSome {X : Type 0} (text : ℕ → X → List ℕ) (fits : X → Type 0) (whole : List X → Type 0) (follows : List ℕ → Type 0) (first : ℕ) (before : Left) (items : List X) (now : Left) : Type 0 where
+  pub sound : (rest : List ℕ) → now ≡ Some rest → before ≡ Some (each_text text first items ++ rest)
+  pub finds : (other : List X) (rest : List ℕ) → whole other → AllByRecursion fits other → follows rest
+    → before ≡ Some (each_text text first other ++ rest)
+    → (left : List X) × (other ≡ items ++ left) × AllByRecursion fits left
+    × (now ≡ Some (each_text text (first + length items) left ++ rest))
+
+-- none at the start
+pub reads-none : {X : Type 0} (text : ℕ → X → List ℕ) (fits : X → Type 0) (whole : List X → Type 0)
+    (follows : List ℕ → Type 0) (first : ℕ) (before : Left) → ReadsSome text fits whole follows first before [] before
+unfolding each_text
+reads-none text fits whole follows first before = record {
+  sound = λ rest e. e;
+  finds = λ other rest is all ends e.
+    let same : first ≡ first + 0 = omega arith in
+    (other, refl, all, e ∙ ap (λ n. Some (each_text text n other ++ rest)) same);
+}
+
+-- the texts of a list with one more item
+pub each_text-more : {X : Type 0} (text : ℕ → X → List ℕ) (first : ℕ) (xs : List X) (x : X)
+    → each_text text first (xs ++ x ∷ []) ≡ each_text text first xs ++ text (first + length xs) x
+unfolding each_text
+each_text-more text first [] x =
+    let same : first ≡ first + 0 = omega arith in append-nil (text first x) ∙ ap (λ n. text n x) same
+each_text-more text first (y ∷ ys) x =
+    let same : first + 1 + length ys ≡ first + suc (length ys) = omega arith in
+    ap (λ more. text first y ++ more) (each_text-more text (first + 1) ys x
+    ∙ ap (λ n. each_text text (first + 1) ys ++ text n x) same)
+    ∙ sym (append_assoc (text first y) (each_text text (first + 1) ys) (text (first + suc (length ys)) x))
+
+-- one more
+pub reads-more : {X : Type 0} {text : ℕ → X → List ℕ} {fits : X → Type 0} {whole : List X → Type 0}
+    {follows ends : List ℕ → Type 0} {first n : ℕ} {before mid after : Left} {items : List X} {x : X}
+    → ReadsSome text fits whole follows first before items mid → Reads (text n) fits ends mid x after
+    → n ≡ first + length items
+    → ((left : List X) (rest : List ℕ) → follows rest → ends (each_text text (n + 1) left ++ rest))
+    → ((rest : List ℕ) → whole items → follows rest → mid ≡ Some rest → ⊥)
+    → ReadsSome text fits whole follows first before (items ++ x ∷ []) after
+unfolding each_text
+reads-more {X = X} {text = text} {fits = fits} {whole = whole} {follows = follows} {first = first} {n = n} {mid = mid} {after = after} {items = items} {x = x} some one count next goes = record {
+  sound = λ rest e.
+    some.sound (text n x ++ rest) (one.sound rest e)
+    ∙ ap Some (sym (append_assoc (each_text text first items) (text n x) rest)
+    ∙ ap (λ more. more ++ rest) (ap (λ n. each_text text first items ++ text n x) count
+    ∙ sym (each_text-more text first items x)));
+  finds = λ other rest is all ends e.
+    let found = some.finds other rest is all ends e in
+    by found.0 other rest found.1 found.2 (found.3 ∙ ap (λ n. Some (each_text text n found.0 ++ rest)) (sym count)) is ends;
+}
+  where
+    by : (left other : List X) (rest : List ℕ) → other ≡ items ++ left → AllByRecursion fits left
+        → mid ≡ Some (each_text text n left ++ rest) → whole other → follows rest
+        → (left : List X) × (other ≡ (items ++ x ∷ []) ++ left) × AllByRecursion fits left
+        × (after ≡ Some (each_text text (first + length (items ++ x ∷ [])) left ++ rest))
+    by [] other rest is all there all_of ends =
+        absurd (goes rest (subst whole (is ∙ append-nil items) all_of) ends there)
+    by (y ∷ ys) other rest is all there all_of ends =
+        let found = one.finds y (each_text text (n + 1) ys ++ rest) all.0 (next ys rest ends)
+          (there ∙ ap Some (append_assoc (text n y) (each_text text (n + 1) ys) rest)) in
+        let more : n + 1 ≡ first + length (items ++ x ∷ []) = omega (arith, count, length_push items x) in (
+          ys,
+          is ∙ ap (λ y. items ++ y ∷ ys) found.0 ∙ sym (append_assoc items (x ∷ []) ys),
+          all.1,
+          found.1 ∙ ap (λ n. Some (each_text text n ys ++ rest)) more,
+        )
+
+-- all
+pub reads-whole : {X : Type 0} {text : ℕ → X → List ℕ} {fits : X → Type 0} {whole : List X → Type 0}
+    {follows : List ℕ → Type 0} {first : ℕ} {before now : Left} {items : List X}
+    → ReadsSome text fits whole follows first before items now
+    → ((left : List X) (rest : List ℕ) → whole (items ++ left) → follows rest
+      → now ≡ Some (each_text text (first + length items) left ++ rest) → left ≡ [])
+    → Reads (each_text text first) (λ items. whole items × AllByRecursion fits items) follows before items now
+unfolding each_text
+reads-whole {text = text} {whole = whole} {first = first} {items = items} some done = record {
+  sound = some.sound;
+  finds = λ other rest fit ends e.
+    let found = some.finds other rest fit.0 fit.1 ends e in
+    let none = done found.0 rest (subst whole found.1 fit.0) ends found.3 in (
+      found.1 ∙ ap (λ left. items ++ left) none ∙ append-nil items,
+      found.3 ∙ ap (λ left. Some (each_text text (first + length items) left ++ rest)) none,
+    );
+}

@@ -64,7 +64,7 @@ returns-in-Some-clause-reads c =
     let is : day_value (century * 100 + year) month day ≡ Some n =
     rw (← c.from.ensures, ← c.from-2.ensures) (sym c.in-Some.ensures.value) in
     reads-as _ _ n (λ n. parts (date_at n)) raw
-    (date_is n c.in-Some.ensures.within
+    (λ rest e. date_is n c.in-Some.ensures.within
     ∙ ap text_of (parts_are n century year month day c.in-Some.ensures.within c.pair-year.ensures.within is))
     (λ x fits. let is = few x fits in (is.0, (is.1, (is.2, is.3)))) (λ x fits. date_is x fits)
     (λ x fits e. same x n (sym (value_is x century year month day fits e) ∙ is))

@@ -43,7 +43,7 @@ returns-in-Some c =
     let is : units ≡ c.number-whole.result * 10_000 + (c.pair-high.result * 100 + c.pair-low.result) =
     omega (arith, c.in-Some.ensures.some) in
     let are = parts_are units c.number-whole.result c.pair-high.result c.pair-low.result is c.pair-high.ensures.within c.pair-low.ensures.within in
-    reads-as _ _ units parts raw (text_is units ∙ ap text_of are)
+    reads-as _ _ units parts raw (λ rest e. text_is units ∙ ap text_of are)
     (λ n fits. (omega arith, (omega arith, omega arith))) (λ n fits. text_is n)
     (λ n fits e. whole_is n c.number-whole.result c.pair-high.result c.pair-low.result e ∙ sym is)
 

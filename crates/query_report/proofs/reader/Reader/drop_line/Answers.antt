@@ -18,7 +18,7 @@ returns-in-Some c =
     let text : drop_text line ≡ c.byte-letter.result ∷ field [] c.field-number.result =
     ap (λ b. field (b ∷ []) (drop_number line)) is.0 ∙ ap (field (c.byte-letter.result ∷ [])) is.1 in
     reads-as _ _ line (λ (line : DropLine). (drop_letter line, drop_number line)) raw
-    (ap (λ bytes. c.args.label.now ++ bytes) text) (λ line fits. (tt, fits)) (λ line fits. refl)
+    (λ rest e. ap (λ bytes. c.args.label.now ++ bytes) text) (λ line fits. (tt, fits)) (λ line fits. refl)
     (λ other fits e. same other line (c.in-Some.ensures.only other (ap (λ p. p.0) e) (ap (λ p. p.1) e)))
   where
     same : (a b : DropLine) → Some b ≡ Some a → a ≡ b

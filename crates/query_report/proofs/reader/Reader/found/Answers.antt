@@ -1,6 +1,7 @@
 use Rattle.std.proofs.Common.{◌≡◌, ℕ, refl, ap}
 use Rattle.cubit_base.specs.Tuple.{TupleValue}
-use Rattle.query_report.proofs.Reading.{reads-and, passes-then, reads-as}
+use Rattle.query_report.specs.Reading.{EndsNumber}
+use Rattle.query_report.proofs.Reading.{reads-and, passes-then, reads-as, reads-before}
 use Rattle.query_report.proofs.reader.Reader.found.Goals as goal
 
 flat : (ℕ × ℕ) × TupleValue → ℕ × ℕ × TupleValue
@@ -8,4 +9,8 @@ flat f = (f.0.0, f.0.1, f.1)
 
 pub returns : goal.returns
 unfolding flat
-returns c = ?
+returns c =
+    let raw = reads-and c.two-front.ensures (passes-then c.label.ensures c.tuple-tuple.ensures (λ n rest fit ends. tt))
+      (λ n rest fit ends. refl) in
+    reads-as _ _ _ (λ (f : ℕ × ℕ × TupleValue). ((f.0, f.1), f.2)) (reads-before EndsNumber raw (λ rest ends. tt))
+    (λ rest e. refl) (λ f fits. ((fits.0, fits.1), fits.2)) (λ f fits. refl) (λ f fits e. ap flat e)

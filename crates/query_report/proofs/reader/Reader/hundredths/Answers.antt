@@ -37,7 +37,7 @@ returns-clause-reads c =
     let is : n ≡ whole * 100 + part = omega (arith, c.from.ensures, c.from-2.ensures) in
     let raw = reads-and c.field-whole.ensures (passes-then c.label.ensures c.pair-part.ensures.reads
       (λ n rest fit ends. tt)) (λ n rest fit ends. refl) in
-    reads-as _ _ n parts raw (text_is n ∙ ap text_of (parts_are n whole part is c.pair-part.ensures.within))
+    reads-as _ _ n parts raw (λ rest e. text_is n ∙ ap text_of (parts_are n whole part is c.pair-part.ensures.within))
     (λ x fits. (omega arith, omega arith)) (λ x fits. text_is x) (λ x fits e. whole_is x whole part e ∙ sym is)
 
 pub returns-then-number-from-clause-reads : goal.returns-then-number-from-clause-reads

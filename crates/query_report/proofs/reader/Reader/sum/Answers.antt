@@ -12,4 +12,4 @@ returns c =
     (reads-and c.two-front.ensures (passes-then c.label.ensures
     (reads-and c.decimal4-sum.ensures c.field-patched.ensures (λ n rest fit ends. tt))
     (λ n rest fit ends. tt)) (λ n rest fit ends. refl))
-    refl (λ s fits. ((fits.0, fits.1), (fits.2, fits.3))) (λ s fits. refl) (λ s fits e. ap flat e)
+    (λ rest e. refl) (λ s fits. ((fits.0, fits.1), (fits.2, fits.3))) (λ s fits. refl) (λ s fits e. ap flat e)

@@ -10,4 +10,4 @@ unfolding flat
 returns c =
     reads-as _ _ _ (λ (n : ℕ × ℕ × ℕ). ((n.0, n.1), n.2))
     (reads-and c.two-first.ensures c.field-third.ensures (λ n rest fit ends. field-ends c.args.last.now n rest c.requires.last))
-    refl (λ n fits. ((fits.0, fits.1), fits.2)) (λ n fits. refl) (λ n fits e. ap flat e)
+    (λ rest e. refl) (λ n fits. ((fits.0, fits.1), fits.2)) (λ n fits. refl) (λ n fits e. ap flat e)

@@ -44,6 +44,6 @@ returns c =
     let raw = reads-and c.field_within-qty.ensures.reads (reads-and c.hundredths-price.ensures.reads
       (reads-and c.hundredths-disc.ensures.reads (reads-and c.hundredths-tax.ensures.reads flag (λ x rest fit ends. tt))
       (λ x rest fit ends. tt)) (λ x rest fit ends. tt)) (λ x rest fit ends. refl) in
-    reads-as _ _ _ parts raw (text_is _)
+    reads-as _ _ _ parts raw (λ rest e. text_is _)
     (λ t fits. ((fits.qty_low, fits.qty_high), (fits.price, (fits.disc, (fits.tax, (tt, (tt, fits.day)))))))
     (λ t fits. text_is t) (λ t fits e. ap made e)
