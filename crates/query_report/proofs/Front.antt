@@ -15,6 +15,11 @@ left_of fine bytes = cond fine (Some bytes) None
 same : (a b : List ℕ) → Some a ≡ Some b → a ≡ b
 same a b e = cc
 
+-- what is left is there
+pub stands : (bytes rest : List ℕ) (fine : Bool) → left_of fine bytes ≡ Some rest → bytes ≡ rest
+stands bytes rest false e = absurd cc
+stands bytes rest true e = cc
+
 -- a text that stands there is passed over
 pub passes-some : (label bytes rest : List ℕ) (fine : Bool) → bytes ≡ label ++ rest
     → Passes label Anything (left_of fine bytes) (left_of fine rest)

@@ -1,6 +1,9 @@
 mod Calendar
 pub mod Digits
+pub mod Drops
 pub mod Front
 pub mod Held
+pub mod Journals
 pub mod Reading
+pub mod Rows
 mod Writing

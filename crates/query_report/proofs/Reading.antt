@@ -20,6 +20,9 @@ pub left_cases : (left : Left) → (left ≡ None) ⊎ ((rest : List ℕ) × (le
 left_cases None = inl refl
 left_cases (Some rest) = inr (rest, refl)
 
+pub failed : {left : Left} {rest : List ℕ} → left ≡ None → left ≡ Some rest → ⊥
+failed none some = cc
+
 -- nothing that fits stands there
 pub reads-fails : {V : Type 0} {text : V → List ℕ} {fits : V → Type 0} {follows : List ℕ → Type 0} {before : Left}
     (value : V) → ((other : V) (rest : List ℕ) → fits other → follows rest → before ≡ Some (text other ++ rest) → ⊥)
@@ -131,15 +134,12 @@ pub reads-not : {V W : Type 0} {t : V → List ℕ} {f : V → Type 0} {ends : L
     (text : W → List ℕ) (fits : W → Type 0) (made : W) (after : Left) (parts : W → V) → Reads t f ends before v mid
     → after ≡ None → ((x : W) → fits x → f (parts x)) → ((x : W) → fits x → text x ≡ t (parts x))
     → ((x : W) → fits x → parts x ≡ v → ⊥) → Reads text fits ends before made after
-reads-not text fits made after parts reads failed fit same other = record {
-  sound = λ rest e. absurd (none (sym failed ∙ e));
+reads-not text fits made after parts reads none fit same other = record {
+  sound = λ rest e. absurd (failed none e);
   finds = λ x rest fits ends e.
     let there = e ∙ ap (λ bytes. Some (bytes ++ rest)) (same x fits) in
     absurd (other x fits (reads.finds (parts x) rest (fit x fits) ends there).0);
 }
-  where
-    none : {rest : List ℕ} → None ≡ Some rest → ⊥
-    none e = cc
 
 -- a number behind a label
 pub field-reads : {label : List ℕ} {before mid after : Left} {n : ℕ} (fits : ℕ → Type 0) → Passes label Anything before mid
@@ -162,14 +162,15 @@ pub record ReadsSome {X : Type 0} (text : ℕ → X → List ℕ) (fits : X → 
     × (now ≡ Some (each_text text (first + length items) left ++ rest))
 
 -- none at the start
-pub reads-none : {X : Type 0} (text : ℕ → X → List ℕ) (fits : X → Type 0) (whole : List X → Type 0)
-    (follows : List ℕ → Type 0) (first : ℕ) (before : Left) → ReadsSome text fits whole follows first before [] before
+pub reads-none : {X : Type 0} {text : ℕ → X → List ℕ} {fits : X → Type 0} {whole : List X → Type 0}
+    {follows : List ℕ → Type 0} {first : ℕ} {before : Left} {items : List X} → items ≡ []
+    → ReadsSome text fits whole follows first before items before
 unfolding each_text
-reads-none text fits whole follows first before = record {
-  sound = λ rest e. e;
+reads-none {text = text} {first = first} {items = items} none = record {
+  sound = λ rest e. e ∙ ap (λ items. Some (each_text text first items ++ rest)) (sym none);
   finds = λ other rest is all ends e.
-    let same : first ≡ first + 0 = omega arith in
-    (other, refl, all, e ∙ ap (λ n. Some (each_text text n other ++ rest)) same);
+    let same : first ≡ first + length items = omega (arith, ap length none) in
+    (other, ap (λ items. items ++ other) (sym none), all, e ∙ ap (λ n. Some (each_text text n other ++ rest)) same);
 }
 
 -- the texts of a list with one more item
@@ -186,37 +187,39 @@ each_text-more text first (y ∷ ys) x =
 
 -- one more
 pub reads-more : {X : Type 0} {text : ℕ → X → List ℕ} {fits : X → Type 0} {whole : List X → Type 0}
-    {follows ends : List ℕ → Type 0} {first n : ℕ} {before mid after : Left} {items : List X} {x : X}
+    {follows ends : List ℕ → Type 0} {first n : ℕ} {before mid after : Left} {items all : List X} {x : X}
     → ReadsSome text fits whole follows first before items mid → Reads (text n) fits ends mid x after
-    → n ≡ first + length items
-    → ((left : List X) (rest : List ℕ) → follows rest → ends (each_text text (n + 1) left ++ rest))
+    → n ≡ first + length items → all ≡ items ++ x ∷ []
+    → ((y : X) (left : List X) (rest : List ℕ) → whole (items ++ y ∷ left) → follows rest
+      → ends (each_text text (n + 1) left ++ rest))
     → ((rest : List ℕ) → whole items → follows rest → mid ≡ Some rest → ⊥)
-    → ReadsSome text fits whole follows first before (items ++ x ∷ []) after
+    → ReadsSome text fits whole follows first before all after
 unfolding each_text
-reads-more {X = X} {text = text} {fits = fits} {whole = whole} {follows = follows} {first = first} {n = n} {mid = mid} {after = after} {items = items} {x = x} some one count next goes = record {
+reads-more {X = X} {text = text} {fits = fits} {whole = whole} {follows = follows} {first = first} {n = n} {mid = mid} {after = after} {items = items} {all = all} {x = x} some one count pushed next goes = record {
   sound = λ rest e.
     some.sound (text n x ++ rest) (one.sound rest e)
     ∙ ap Some (sym (append_assoc (each_text text first items) (text n x) rest)
     ∙ ap (λ more. more ++ rest) (ap (λ n. each_text text first items ++ text n x) count
-    ∙ sym (each_text-more text first items x)));
-  finds = λ other rest is all ends e.
-    let found = some.finds other rest is all ends e in
+    ∙ sym (each_text-more text first items x) ∙ ap (each_text text first) (sym pushed)));
+  finds = λ other rest is fit ends e.
+    let found = some.finds other rest is fit ends e in
     by found.0 other rest found.1 found.2 (found.3 ∙ ap (λ n. Some (each_text text n found.0 ++ rest)) (sym count)) is ends;
 }
   where
     by : (left other : List X) (rest : List ℕ) → other ≡ items ++ left → AllByRecursion fits left
         → mid ≡ Some (each_text text n left ++ rest) → whole other → follows rest
-        → (left : List X) × (other ≡ (items ++ x ∷ []) ++ left) × AllByRecursion fits left
-        × (after ≡ Some (each_text text (first + length (items ++ x ∷ [])) left ++ rest))
-    by [] other rest is all there all_of ends =
-        absurd (goes rest (subst whole (is ∙ append-nil items) all_of) ends there)
-    by (y ∷ ys) other rest is all there all_of ends =
-        let found = one.finds y (each_text text (n + 1) ys ++ rest) all.0 (next ys rest ends)
+        → (left : List X) × (other ≡ all ++ left) × AllByRecursion fits left
+        × (after ≡ Some (each_text text (first + length all) left ++ rest))
+    by [] other rest is fit there of ends =
+        absurd (goes rest (subst whole (is ∙ append-nil items) of) ends there)
+    by (y ∷ ys) other rest is fit there of ends =
+        let found = one.finds y (each_text text (n + 1) ys ++ rest) fit.0 (next y ys rest (subst whole is of) ends)
           (there ∙ ap Some (append_assoc (text n y) (each_text text (n + 1) ys) rest)) in
-        let more : n + 1 ≡ first + length (items ++ x ∷ []) = omega (arith, count, length_push items x) in (
+        let more : n + 1 ≡ first + length all = omega (arith, count, ap length pushed, length_push items x) in (
           ys,
-          is ∙ ap (λ y. items ++ y ∷ ys) found.0 ∙ sym (append_assoc items (x ∷ []) ys),
-          all.1,
+          is ∙ ap (λ y. items ++ y ∷ ys) found.0 ∙ sym (append_assoc items (x ∷ []) ys)
+          ∙ ap (λ items. items ++ ys) (sym pushed),
+          fit.1,
           found.1 ∙ ap (λ n. Some (each_text text n ys ++ rest)) more,
         )
 

@@ -58,10 +58,14 @@ IsLabel (b ∷ bytes) = is_digit b ≡ false
 abbrev pub IsNumber : ℕ → Type 0
 IsNumber n = n < 4_294_967_296
 
+-- no reply's line stands at the front
+abbrev pub EndsReplies : List ℕ → Type 0
+EndsReplies rest = begins 119 (Some rest) ≡ false
+
 -- no line of this worker stands at the front: a line of another one does, or none
 abbrev pub EndsWorker : ℕ → List ℕ → Type 0
 EndsWorker worker rest =
-    (begins 119 (Some rest) ≡ false)
+    EndsReplies rest
     ⊎ ((other : ℕ) × (more : List ℕ) × IsNumber other × (other ≢ worker)
     × (rest ≡ field (codes "w") other ++ 32 ∷ more))
 

@@ -62,7 +62,7 @@ IsReplyList replies = IsNumber (length replies) × AllByRecursion IsReply replie
 
 -- the replies of all workers: a list for each, the last of them not empty
 abbrev pub IsReplyTable : List (List Reply) → Type 0
-IsReplyTable lists = (length lists ≤ 256) × EndsInReply lists × AllByRecursion IsReplyList lists
+IsReplyTable lists = ((length lists ≤ 256) × EndsInReply lists) × AllByRecursion IsReplyList lists
 
 abbrev pub IsHeld : Option TupleValue → Type 0
 IsHeld held = IfSome held IsTuple

@@ -1,8 +1,8 @@
 //! Readers of the lines of a report.
-ghost use Rattle.std.specs.Prelude.{◌≡◌, ◌<◌, ◌≤◌, false, length, Some, IfOk};
+ghost use Rattle.std.specs.Prelude.{◌≤◌, length, IfOk};
 ghost use Rattle.std.specs.List.{AllByRecursion};
 ghost use Rattle.query_report.specs.Journal.{delta_line, place_text, journal_bytes};
-ghost use Rattle.query_report.specs.Reading.{Reads, Anything, EndsNumber, EndsWorker, IsAtWorker, begins};
+ghost use Rattle.query_report.specs.Reading.{Reads, Anything, EndsNumber, EndsReplies, EndsWorker, IsAtWorker};
 ghost use Rattle.query_report.specs.Reply.{reply_line};
 ghost use Rattle.query_report.specs.Report.{IsReply, IsReplyList, IsReplyTable, IsDelta, IsPlace, IsJournal, reply_lines, worker_lines};
 
@@ -15,16 +15,9 @@ use std::alloc::Global;
 impl<'a> Reader<'a> {
     /// The replies of all workers.
     pub(crate) fn replies(&mut self, alloc: Global) -> Result<ReplyTable, Memory>
-        ensures { IfOk result (λ table. Reads (reply_lines 0) IsReplyTable (λ rest. begins 119 (Some rest) ≡ false)
-            self.old table self.new) }
+        ensures { IfOk result (λ table. Reads (reply_lines 0) IsReplyTable EndsReplies self.old table self.new) }
     {
-        let mut lists = Vec::new(alloc);
-        for worker in 0..256u32 {
-            if !self.is_at(b'w') {
-                break;
-            }
-            lists.push(self.replies_of(alloc, worker as u8)?)?;
-        }
+        let lists = self.lists(alloc)?;
         match ReplyTable::of_lists(lists) {
             Some(table) => Ok(table),
             None => {
@@ -32,6 +25,22 @@ impl<'a> Reader<'a> {
                 Ok(ReplyTable::new(alloc))
             }
         }
+    }
+
+    // The lists of replies of the workers from 0 on, up to the last that has one.
+    fn lists(&mut self, alloc: Global) -> Result<Vec<ReplyList>, Memory>
+        ensures reads { IfOk result (λ lists. Reads (reply_lines 0) IsReplyTable EndsReplies
+            self.old lists.items self.new) }
+        ensures few { IfOk result (λ lists. length lists.items ≤ 256) }
+    {
+        let mut lists = Vec::new(alloc);
+        for worker in 0..256u32 {
+            if !self.is_at(b'w') {
+                return Ok(lists);
+            }
+            lists.push(self.replies_of(alloc, worker as u8)?)?;
+        }
+        Ok(lists)
     }
 
     // The replies of one worker.

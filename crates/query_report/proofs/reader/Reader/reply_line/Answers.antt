@@ -1,0 +1,1 @@
+use Rattle.query_report.proofs.reader.Reader.reply_line.Goals as goal
