@@ -2,7 +2,7 @@
 use Rattle.std.proofs.Common.{◌≡◌, ℕ, ◌+◌, ◌<◌, ◌∙◌, ◌==◌, Bool, true, false, true≢false, cond, List, [], ◌∷◌, ◌++◌, length, count_by, codes, Some, None, refl, sym, ap, arith}
 use Rattle.std.proofs.lemmas.Bool.Decides.{Decides-eqb}
 use Rattle.std.proofs.lemmas.List.{nil_from_length}
-use Rattle.std.proofs.lemmas.List.Sums.{count_by-le}
+use Rattle.std.proofs.lemmas.List.Sums.{count_by-le-length}
 use Rattle.std.specs.List.{AllByRecursion}
 use Rattle.query_report.specs.declared.reply.DropLine.{DropLine}
 use Rattle.query_report.specs.Field.{field, each_text}
@@ -15,14 +15,14 @@ abbrev pub IsDrop : List DropLine → Type 0
 IsDrop lines = (length lines ≡ 7) × AllByRecursion IsDropLine lines
 
 -- the number of lines that were deleted, and the lines
-pub drop-reads : {before mid now after : Left} {deleted : ℕ} {lines : List DropLine}
+pub drop-reads : {before mid now after : Left} {deleted : ℕ} {lines : List DropLine} (count : ℕ)
     → Reads (field (codes "drop deleted=")) IsNumber EndsNumber before deleted mid
     → Reads (drops_text 49) IsDrop EndsNumber mid lines now
-    → after ≡ cond (deleted == count_by is_deleted lines) now None
+    → count ≡ count_by is_deleted lines → after ≡ cond (deleted == count) now None
     → Reads drop_reply IsDrop EndsNumber before lines after
 unfolding each_text
-drop-reads {before = before} {now = now} {after = after} {deleted = deleted} {lines = lines} head seven is =
-    by (deleted == count_by is_deleted lines) refl is
+drop-reads {before = before} {now = now} {after = after} {deleted = deleted} {lines = lines} count head seven counts is =
+    by (deleted == count_by is_deleted lines) refl (is ∙ ap (λ count. cond (deleted == count) now None) counts)
   where
     raw : Reads (λ (p : ℕ × List DropLine). field (codes "drop deleted=") p.0 ++ drops_text 49 p.1)
         (λ p. IsNumber p.0 × IsDrop p.1) EndsNumber before (deleted, lines) now
@@ -33,7 +33,7 @@ drop-reads {before = before} {now = now} {after = after} {deleted = deleted} {li
         next (line ∷ lines) rest fits ends = refl
 
     fit : (lines : List DropLine) → IsDrop lines → IsNumber (count_by is_deleted lines) × IsDrop lines
-    fit lines fits = (omega (arith, fits.0, count_by-le is_deleted lines), fits)
+    fit lines fits = (omega (arith, fits.0, count_by-le-length is_deleted lines), fits)
 
     by : (same : Bool) → (deleted == count_by is_deleted lines) ≡ same → after ≡ cond same now None
         → Reads drop_reply IsDrop EndsNumber before lines after
