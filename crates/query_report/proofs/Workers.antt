@@ -3,13 +3,15 @@ use Rattle.std.proofs.Common.{◌≡◌, ◌≢◌, ◌⊎◌, inl, inr, ℕ, ze
 use Rattle.std.proofs.lemmas.Bool.Decides.{Decides-eqb}
 use Rattle.std.proofs.lemmas.List.{length-append, nil_from_length, get_or-append-add}
 use Rattle.std.specs.List.{AllByRecursion}
+use Rattle.cubit_base.specs.declared.delta.Delta.{Delta}
 use Rattle.query_report.specs.declared.reply.Reply.{Reply}
 use Rattle.query_report.specs.Field.{field, two_fields, each_text}
+use Rattle.query_report.specs.Journal.{journal_bytes}
 use Rattle.query_report.specs.Reading.{Left, Reads, Passes, Anything, EndsNumber, EndsReplies, EndsWorker, IsAtWorker, IsNumber, begins}
 use Rattle.query_report.specs.Reply.{reply_bytes, reply_line}
 use Rattle.query_report.specs.ReplyTable.{EndsInReply, replies_of}
-use Rattle.query_report.specs.Report.{IsReply, IsReplyList, IsReplyTable, worker_lines, reply_lines}
-use Rattle.query_report.proofs.Reading.{ReadsSome, passes-then, then-passes, reads-as, reads-whole}
+use Rattle.query_report.specs.Report.{IsReply, IsReplyList, IsReplyTable, IsJournal, IsReport, worker_lines, reply_lines, report_bytes}
+use Rattle.query_report.proofs.Reading.{reads-and, passes-then, then-passes, reads-as}
 
 -- a line of a worker begins with its number
 line_begins : (worker number : ℕ) (reply : Reply) (rest : List ℕ)
@@ -71,10 +73,24 @@ worker_goes worker rest now look (inl none) there =
 worker_goes worker rest now look (inr line) there =
     true≢false (look.line line.0 (32 ∷ line.1) line.2 refl (there ∙ ap Some line.4) ∙ ne_eqb line.0 worker line.3)
 
+-- the last of more lists is the last of all
+tail_ends : (first list : List Reply) (lists : List (List Reply)) → EndsInReply (first ∷ list ∷ lists)
+    → EndsInReply (list ∷ lists)
+tail_ends first list lists ends some =
+    let same : length (first ∷ list ∷ lists) - 1 ≡ suc (length (list ∷ lists) - 1) = omega arith in
+    rw same at (ends (omega arith))
+
+left_ends : (front : List (List Reply)) (list : List Reply) (lists : List (List Reply))
+    → EndsInReply (front ++ list ∷ lists) → EndsInReply (list ∷ lists)
+left_ends [] list lists ends = ends
+left_ends (first ∷ []) list lists ends = tail_ends first list lists ends
+left_ends (first ∷ next ∷ front) list lists ends =
+    left_ends (next ∷ front) list lists (tail_ends first next (front ++ list ∷ lists) ends)
+
 -- where the last list has a reply, a line stands at the front
 lines_begin : (n : ℕ) (lists : List (List Reply)) (rest : List ℕ) → 0 < length lists → EndsInReply lists
     → begins 119 (Some (reply_lines n lists ++ rest)) ≡ true
-unfolding each_text
+unfolding each_text field
 lines_begin n [] rest some ends = absurd (omega arith)
 lines_begin n ((reply ∷ replies) ∷ lists) rest some ends =
     let first = reply_line n 1 reply in
@@ -85,8 +101,24 @@ lines_begin n ((reply ∷ replies) ∷ lists) rest some ends =
     ap (λ bytes. begins 119 (Some bytes)) (text ∙ line.1)
 lines_begin n ([] ∷ []) rest some ends = absurd (omega (arith, ends some))
 lines_begin n ([] ∷ list ∷ lists) rest some ends =
-    lines_begin (n + 1) (list ∷ lists) rest (omega arith) (λ some. tail_ends [] list lists ends)
+    lines_begin (n + 1) (list ∷ lists) rest (omega arith) (tail_ends [] list lists ends)
 
-tail_ends : (first list : List Reply) (lists : List (List Reply)) → EndsInReply (first ∷ list ∷ lists)
-    → 0 < length (replies_of (list ∷ lists) (length (list ∷ lists) - 1))
-tail_ends first list lists ends = ?
+-- a look at the front says where the lists end
+pub lists_done : (n : ℕ) (front left : List (List Reply)) (rest : List ℕ) (now : Left) → EndsInReply (front ++ left)
+    → begins 119 now ≡ false → now ≡ Some (reply_lines n left ++ rest) → left ≡ []
+lists_done n front [] rest now ends look there = refl
+lists_done n front (list ∷ lists) rest now ends look there =
+    absurd (true≢false (sym (lines_begin n (list ∷ lists) rest (omega arith) (left_ends front list lists ends))
+    ∙ ap (begins 119) (sym there) ∙ look))
+
+pub lists_go : (rest : List ℕ) (now : Left) → begins 119 now ≡ true → EndsReplies rest → now ≡ Some rest → ⊥
+lists_go rest now look ends there = true≢false (sym look ∙ ap (begins 119) there ∙ ends)
+
+-- the replies, and then the journal
+pub report-reads : {before mid after : Left} {replies : List (List Reply)} {journal : List Delta}
+    → Reads (reply_lines 0) IsReplyTable EndsReplies before replies mid
+    → Reads journal_bytes IsJournal Anything mid journal after
+    → Reads (λ (report : List (List Reply) × List Delta). report_bytes report.0 report.1)
+      (λ report. IsReport report.0 report.1) Anything before (replies, journal) after
+unfolding report_bytes field
+report-reads one two = reads-and one two (λ journal rest fits ends. refl)
