@@ -45,10 +45,10 @@ drop-reads {before = before} {now = now} {after = after} {deleted = deleted} {li
     by false same is =
         reads-not drop_reply IsDrop lines after (λ lines. (count_by is_deleted lines, lines)) raw is fit
         (λ lines fits. refl) (λ other fits e.
-          let lines_same = ap (λ p. p.1) e in
-          let count : deleted ≡ count_by is_deleted lines =
-          sym (ap (λ p. p.0) e) ∙ ap (count_by is_deleted) lines_same in
-          true≢false (sym ((Decides-eqb deleted (count_by is_deleted lines)).1 count) ∙ same))
+        let lines_same = ap (λ p. p.1) e in
+        let count : deleted ≡ count_by is_deleted lines =
+        sym (ap (λ p. p.0) e) ∙ ap (count_by is_deleted) lines_same in
+        true≢false (sym ((Decides-eqb deleted (count_by is_deleted lines)).1 count) ∙ same))
 
 -- lines may follow a number
 drops_end : (digit : ℕ) (lines : List DropLine) (rest : List ℕ) → EndsNumber rest

@@ -88,9 +88,9 @@ pub reply-reads : {before after : Left} (f : Form) {parts : Parts f}
 reply-reads {before = before} f {parts = parts} reads tells = record {
   sound = reads.sound;
   finds = λ other rest fits ends e.
-    let same = told other rest before f e tells in
-    let whole = subst (λ (f : Form). (parts : Parts f) × (other ≡ made f parts)) (sym same) (parts_of other) in
-    let found = reads.finds whole.0 rest (subst IsReply whole.1 fits) ends
+      let same = told other rest before f e tells in
+      let whole = subst (λ (f : Form). (parts : Parts f) × (other ≡ made f parts)) (sym same) (parts_of other) in
+      let found = reads.finds whole.0 rest (subst IsReply whole.1 fits) ends
       (e ∙ ap (λ other. Some (reply_bytes other ++ rest)) whole.1) in
-    (whole.1 ∙ ap (made f) found.0, found.1);
+      (whole.1 ∙ ap (made f) found.0, found.1);
 }

@@ -105,15 +105,15 @@ number-some bytes false is small = record {
 }
 number-some bytes true is small = record {
   sound = λ rest e.
-    let text = decimal-digits_value own (digits_of bytes) (digits_all bytes) is.0 is.2 (omega arith) in
-    let all = take-append-drop (prefix_len is_digit bytes) bytes in
-    ap Some (sym all ∙ ap (λ digits. digits ++ behind bytes) (sym text)
-    ∙ ap (λ more. decimal (spelled (digits_of bytes)) ++ more) (same (behind bytes) rest e));
+      let text = decimal-digits_value own (digits_of bytes) (digits_all bytes) is.0 is.2 (omega arith) in
+      let all = take-append-drop (prefix_len is_digit bytes) bytes in
+      ap Some (sym all ∙ ap (λ digits. digits ++ behind bytes) (sym text)
+      ∙ ap (λ more. decimal (spelled (digits_of bytes)) ++ more) (same (behind bytes) rest e));
   finds = λ other rest fits stop e.
-    let at = front bytes rest other fits stop (same bytes (decimal other ++ rest) e) in (
-      sym (digits_value-decimal own other (omega arith)) ∙ ap spelled (sym at.0),
-      ap Some at.1,
-    );
+      let at = front bytes rest other fits stop (same bytes (decimal other ++ rest) e) in (
+        sym (digits_value-decimal own other (omega arith)) ∙ ap spelled (sym at.0),
+        ap Some at.1,
+      );
 }
 
 -- and no number stands where they do not
@@ -126,6 +126,6 @@ number-none bytes false value other = record {
 number-none bytes true value other = record {
   sound = λ rest e. absurd cc;
   finds = λ n rest fits stop e.
-    let at = front bytes rest n fits stop (same bytes (decimal n ++ rest) e) in
-    absurd (other (rw at.0 (numeral n fits)));
+      let at = front bytes rest n fits stop (same bytes (decimal n ++ rest) e) in
+      absurd (other (rw at.0 (numeral n fits)));
 }

@@ -35,9 +35,9 @@ pub held-none : {before after : Left} {b : ℕ} → begins 45 before ≡ true
     → Reads (λ (b : ℕ). b ∷ []) (λ b. Unit {0}) Anything before b after → Reads held_text IsHeld Anything before None after
 held-none {before = before} {after = after} {b = b} at byte = record {
   sound = λ rest e.
-    let there = byte.sound rest e in
-    let same = (Decides-eqb b 45).0 (sym (ap (begins 45) there) ∙ at) in
-    there ∙ ap (λ b. Some (b ∷ rest)) same;
+      let there = byte.sound rest e in
+      let same = (Decides-eqb b 45).0 (sym (ap (begins 45) there) ∙ at) in
+      there ∙ ap (λ b. Some (b ∷ rest)) same;
   finds = finds;
 }
   where

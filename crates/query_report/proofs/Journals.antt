@@ -16,9 +16,9 @@ pub journal-reads : {before mid now : Left} {count : ℕ} {deltas : List Delta}
     → ((rest : List ℕ) → now ≡ Some rest → length deltas ≡ count) → Reads journal_bytes IsJournal Anything before deltas now
 journal-reads {count = count} {deltas = deltas} head some all =
     let whole = reads-whole some (λ left rest is ends e.
-      nil_from_length left (omega (arith, is, all _ e, length-append deltas left))) in
+    nil_from_length left (omega (arith, is, all _ e, length-append deltas left))) in
     let raw = reads-given (λ (p : ℕ × List Delta). IsNumber p.0 × (length p.1 ≡ p.0) × AllByRecursion IsDelta p.1)
-      head whole (λ p fits. fits.0) (λ p fits is. (fits.1 ∙ is, fits.2)) (λ p rest fits ends. tt) in
+    head whole (λ p fits. fits.0) (λ p fits is. (fits.1 ∙ is, fits.2)) (λ p rest fits ends. tt) in
     reads-as journal_bytes IsJournal deltas (λ deltas. (length deltas, deltas)) raw
     (λ rest e. ap (λ n. (field (codes "journal ") n ++ codes "\n") ++ delta_lines 0 deltas) (all rest e))
     (λ deltas fits. (fits.0, refl, fits.1)) (λ deltas fits. refl) (λ deltas fits e. ap (λ p. p.1) e)

@@ -39,7 +39,7 @@ pub reads-is : {V : Type 0} {text : V → List ℕ} {fits : V → Type 0} {follo
 reads-is {text = text} before' value' after' reads b v a = record {
   sound = λ rest e. sym b ∙ reads.sound rest (a ∙ e) ∙ ap (λ x. Some (text x ++ rest)) v;
   finds = λ other rest fit ends e.
-    let found = reads.finds other rest fit ends (b ∙ e) in (found.0 ∙ v, sym a ∙ found.1);
+      let found = reads.finds other rest fit ends (b ∙ e) in (found.0 ∙ v, sym a ∙ found.1);
 }
 
 both : {V W : Type 0} (p q : V × W) → p.0 ≡ q.0 → p.1 ≡ q.1 → p ≡ q
@@ -54,12 +54,12 @@ pub reads-and : {V W : Type 0} {t : V → List ℕ} {u : W → List ℕ} {f : V 
     → Reads (λ (p : V × W). t p.0 ++ u p.1) (λ p. f p.0 × g p.1) ends' before (v, w) after
 reads-and {t = t} {u = u} {v = v} {w = w} one two next = record {
   sound = λ rest e.
-    one.sound (u w ++ rest) (two.sound rest e) ∙ ap Some (sym (append_assoc (t v) (u w) rest));
+      one.sound (u w ++ rest) (two.sound rest e) ∙ ap Some (sym (append_assoc (t v) (u w) rest));
   finds = λ other rest fit ends e.
-    let first = one.finds other.0 (u other.1 ++ rest) fit.0 (next other.1 rest fit.1 ends)
+      let first = one.finds other.0 (u other.1 ++ rest) fit.0 (next other.1 rest fit.1 ends)
       (e ∙ ap Some (append_assoc (t other.0) (u other.1) rest)) in
-    let second = two.finds other.1 rest fit.1 ends first.1 in
-    (both other (v, w) first.0 second.0, second.1);
+      let second = two.finds other.1 rest fit.1 ends first.1 in
+      (both other (v, w) first.0 second.0, second.1);
 }
 
 -- the same, where a value that fits depends on the one before it
@@ -71,12 +71,12 @@ pub reads-given : {V W : Type 0} {t : V → List ℕ} {u : W → List ℕ} {f : 
     → Reads (λ (p : V × W). t p.0 ++ u p.1) fits ends' before (v, w) after
 reads-given {t = t} {u = u} {v = v} {w = w} fits one two fit given next = record {
   sound = λ rest e.
-    one.sound (u w ++ rest) (two.sound rest e) ∙ ap Some (sym (append_assoc (t v) (u w) rest));
+      one.sound (u w ++ rest) (two.sound rest e) ∙ ap Some (sym (append_assoc (t v) (u w) rest));
   finds = λ other rest is ends e.
-    let first = one.finds other.0 (u other.1 ++ rest) (fit other is) (next other rest is ends)
+      let first = one.finds other.0 (u other.1 ++ rest) (fit other is) (next other rest is ends)
       (e ∙ ap Some (append_assoc (t other.0) (u other.1) rest)) in
-    let second = two.finds other.1 rest (given other is first.0) ends first.1 in
-    (both other (v, w) first.0 second.0, second.1);
+      let second = two.finds other.1 rest (given other is first.0) ends first.1 in
+      (both other (v, w) first.0 second.0, second.1);
 }
 
 -- a value behind a known text
@@ -86,10 +86,10 @@ pub passes-then : {W : Type 0} {text : List ℕ} {u : W → List ℕ} {g : W →
     → Reads (λ y. text ++ u y) g ends' before w after
 passes-then {text = text} {u = u} {w = w} one two next = record {
   sound = λ rest e.
-    one.sound (u w ++ rest) (two.sound rest e) ∙ ap Some (sym (append_assoc text (u w) rest));
+      one.sound (u w ++ rest) (two.sound rest e) ∙ ap Some (sym (append_assoc text (u w) rest));
   finds = λ other rest fit ends e.
-    two.finds other rest fit ends (one.finds (u other ++ rest) (next other rest fit ends)
-    (e ∙ ap Some (append_assoc text (u other) rest)));
+      two.finds other rest fit ends (one.finds (u other ++ rest) (next other rest fit ends)
+      (e ∙ ap Some (append_assoc text (u other) rest)));
 }
 
 -- a value before a known text
@@ -99,11 +99,11 @@ pub then-passes : {V : Type 0} {t : V → List ℕ} {text : List ℕ} {f : V →
     → Reads (λ y. t y ++ text) f ends' before v after
 then-passes {t = t} {text = text} {v = v} one two next = record {
   sound = λ rest e.
-    one.sound (text ++ rest) (two.sound rest e) ∙ ap Some (sym (append_assoc (t v) text rest));
+      one.sound (text ++ rest) (two.sound rest e) ∙ ap Some (sym (append_assoc (t v) text rest));
   finds = λ other rest fit ends e.
-    let first = one.finds other (text ++ rest) fit (next rest ends)
+      let first = one.finds other (text ++ rest) fit (next rest ends)
       (e ∙ ap Some (append_assoc (t other) text rest)) in
-    (first.0, two.finds rest ends first.1);
+      (first.0, two.finds rest ends first.1);
 }
 
 -- what is made of a value that was read
@@ -115,9 +115,9 @@ pub reads-as : {V W : Type 0} {t : V → List ℕ} {f : V → Type 0} {ends : Li
 reads-as {t = t} text fits made parts reads is fit same only = record {
   sound = λ rest e. reads.sound rest e ∙ ap (λ bytes. Some (bytes ++ rest)) (sym (is rest e));
   finds = λ other rest fits ends e.
-    let there = e ∙ ap (λ bytes. Some (bytes ++ rest)) (same other fits) in
-    let found = reads.finds (parts other) rest (fit other fits) ends there in
-    (only other fits found.0, found.1);
+      let there = e ∙ ap (λ bytes. Some (bytes ++ rest)) (same other fits) in
+      let found = reads.finds (parts other) rest (fit other fits) ends there in
+      (only other fits found.0, found.1);
 }
 
 -- fewer texts may follow
@@ -137,8 +137,8 @@ pub reads-not : {V W : Type 0} {t : V → List ℕ} {f : V → Type 0} {ends : L
 reads-not text fits made after parts reads none fit same other = record {
   sound = λ rest e. absurd (failed none e);
   finds = λ x rest fits ends e.
-    let there = e ∙ ap (λ bytes. Some (bytes ++ rest)) (same x fits) in
-    absurd (other x fits (reads.finds (parts x) rest (fit x fits) ends there).0);
+      let there = e ∙ ap (λ bytes. Some (bytes ++ rest)) (same x fits) in
+      absurd (other x fits (reads.finds (parts x) rest (fit x fits) ends there).0);
 }
 
 -- a number behind a label
@@ -157,9 +157,9 @@ field-reads {label = label} {n = n} fits one two few =
 pub record ReadsSome {X : Type 0} (text : ℕ → X → List ℕ) (fits : X → Type 0) (whole : List X → Type 0) (follows : List ℕ → Type 0) (first : ℕ) (before : Left) (items : List X) (now : Left) : Type 0 where
   pub sound : (rest : List ℕ) → now ≡ Some rest → before ≡ Some (each_text text first items ++ rest)
   pub finds : (other : List X) (rest : List ℕ) → whole other → AllByRecursion fits other → follows rest
-    → before ≡ Some (each_text text first other ++ rest)
-    → (left : List X) × (other ≡ items ++ left) × AllByRecursion fits left
-    × (now ≡ Some (each_text text (first + length items) left ++ rest))
+      → before ≡ Some (each_text text first other ++ rest)
+      → (left : List X) × (other ≡ items ++ left) × AllByRecursion fits left
+      × (now ≡ Some (each_text text (first + length items) left ++ rest))
 
 -- none at the start
 pub reads-none : {X : Type 0} {text : ℕ → X → List ℕ} {fits : X → Type 0} {whole : List X → Type 0}
@@ -169,8 +169,8 @@ unfolding each_text
 reads-none {text = text} {first = first} {items = items} none = record {
   sound = λ rest e. e ∙ ap (λ items. Some (each_text text first items ++ rest)) (sym none);
   finds = λ other rest is all ends e.
-    let same : first ≡ first + length items = omega (arith, ap length none) in
-    (other, ap (λ items. items ++ other) (sym none), all, e ∙ ap (λ n. Some (each_text text n other ++ rest)) same);
+      let same : first ≡ first + length items = omega (arith, ap length none) in
+      (other, ap (λ items. items ++ other) (sym none), all, e ∙ ap (λ n. Some (each_text text n other ++ rest)) same);
 }
 
 -- the texts of a list with one more item
@@ -191,19 +191,19 @@ pub reads-more : {X : Type 0} {text : ℕ → X → List ℕ} {fits : X → Type
     → ReadsSome text fits whole follows first before items mid → Reads (text n) fits ends mid x after
     → n ≡ first + length items → all ≡ items ++ x ∷ []
     → ((y : X) (left : List X) (rest : List ℕ) → whole (items ++ y ∷ left) → follows rest
-      → ends (each_text text (n + 1) left ++ rest))
+    → ends (each_text text (n + 1) left ++ rest))
     → ((rest : List ℕ) → whole items → follows rest → mid ≡ Some rest → ⊥)
     → ReadsSome text fits whole follows first before all after
 unfolding each_text
 reads-more {X = X} {text = text} {fits = fits} {whole = whole} {follows = follows} {first = first} {n = n} {mid = mid} {after = after} {items = items} {all = all} {x = x} some one count pushed next goes = record {
   sound = λ rest e.
-    some.sound (text n x ++ rest) (one.sound rest e)
-    ∙ ap Some (sym (append_assoc (each_text text first items) (text n x) rest)
-    ∙ ap (λ more. more ++ rest) (ap (λ n. each_text text first items ++ text n x) count
-    ∙ sym (each_text-more text first items x) ∙ ap (each_text text first) (sym pushed)));
+      some.sound (text n x ++ rest) (one.sound rest e)
+      ∙ ap Some (sym (append_assoc (each_text text first items) (text n x) rest)
+      ∙ ap (λ more. more ++ rest) (ap (λ n. each_text text first items ++ text n x) count
+      ∙ sym (each_text-more text first items x) ∙ ap (each_text text first) (sym pushed)));
   finds = λ other rest is fit ends e.
-    let found = some.finds other rest is fit ends e in
-    by found.0 other rest found.1 found.2 (found.3 ∙ ap (λ n. Some (each_text text n found.0 ++ rest)) (sym count)) is ends;
+      let found = some.finds other rest is fit ends e in
+      by found.0 other rest found.1 found.2 (found.3 ∙ ap (λ n. Some (each_text text n found.0 ++ rest)) (sym count)) is ends;
 }
   where
     by : (left other : List X) (rest : List ℕ) → other ≡ items ++ left → AllByRecursion fits left
@@ -214,11 +214,11 @@ reads-more {X = X} {text = text} {fits = fits} {whole = whole} {follows = follow
         absurd (goes rest (subst whole (is ∙ append-nil items) of) ends there)
     by (y ∷ ys) other rest is fit there of ends =
         let found = one.finds y (each_text text (n + 1) ys ++ rest) fit.0 (next y ys rest (subst whole is of) ends)
-          (there ∙ ap Some (append_assoc (text n y) (each_text text (n + 1) ys) rest)) in
+        (there ∙ ap Some (append_assoc (text n y) (each_text text (n + 1) ys) rest)) in
         let more : n + 1 ≡ first + length all = omega (arith, count, ap length pushed, length_push items x) in (
           ys,
           is ∙ ap (λ y. items ++ y ∷ ys) found.0 ∙ sym (append_assoc items (x ∷ []) ys)
-          ∙ ap (λ items. items ++ ys) (sym pushed),
+              ∙ ap (λ items. items ++ ys) (sym pushed),
           fit.1,
           found.1 ∙ ap (λ n. Some (each_text text n ys ++ rest)) more,
         )
@@ -228,15 +228,15 @@ pub reads-whole : {X : Type 0} {text : ℕ → X → List ℕ} {fits : X → Typ
     {follows : List ℕ → Type 0} {first : ℕ} {before now : Left} {items : List X}
     → ReadsSome text fits whole follows first before items now
     → ((left : List X) (rest : List ℕ) → whole (items ++ left) → follows rest
-      → now ≡ Some (each_text text (first + length items) left ++ rest) → left ≡ [])
+    → now ≡ Some (each_text text (first + length items) left ++ rest) → left ≡ [])
     → Reads (each_text text first) (λ items. whole items × AllByRecursion fits items) follows before items now
 unfolding each_text
 reads-whole {text = text} {whole = whole} {first = first} {items = items} some done = record {
   sound = some.sound;
   finds = λ other rest fit ends e.
-    let found = some.finds other rest fit.0 fit.1 ends e in
-    let none = done found.0 rest (subst whole found.1 fit.0) ends found.3 in (
-      found.1 ∙ ap (λ left. items ++ left) none ∙ append-nil items,
-      found.3 ∙ ap (λ left. Some (each_text text (first + length items) left ++ rest)) none,
-    );
+      let found = some.finds other rest fit.0 fit.1 ends e in
+      let none = done found.0 rest (subst whole found.1 fit.0) ends found.3 in (
+        found.1 ∙ ap (λ left. items ++ left) none ∙ append-nil items,
+        found.3 ∙ ap (λ left. Some (each_text text (first + length items) left ++ rest)) none,
+      );
 }

@@ -20,8 +20,8 @@ unfolding list_text
 list-none {list = list} none_of is passes = record {
   sound = λ rest e. passes.sound rest e ∙ ap (λ list. Some (list_text list ++ rest)) (sym is);
   finds = λ other rest fits ends e.
-    let none = nil_from_length other (fits.0 ∙ none_of) in
-    (none ∙ sym is, passes.finds rest tt (e ∙ ap (λ list. Some (list_text list ++ rest)) none));
+      let none = nil_from_length other (fits.0 ∙ none_of) in
+      (none ∙ sym is, passes.finds rest tt (e ∙ ap (λ list. Some (list_text list ++ rest)) none));
 }
 
 -- a number may stand before more of them
@@ -37,7 +37,7 @@ push_behind front list pushed row is some e =
     let rows = ap (drop 1) e ∙ drop-append-le 1 list (row ∷ []) (omega arith) in (
       rows,
       e ∙ ap (λ list. list ++ row ∷ []) is ∙ append_assoc front (drop 1 list) (row ∷ [])
-      ∙ ap (λ rows. front ++ rows) (sym rows),
+          ∙ ap (λ rows. front ++ rows) (sym rows),
     )
 
 -- the first
@@ -58,7 +58,7 @@ list-some {first = first} {count = count} {list = list} some_of is head some all
     let rows = drop 1 list in
     let len : length list ≡ length rows + 1 = ap length is ∙ omega arith in
     let whole = reads-whole some (λ left rest fits ends e.
-      nil_from_length left (omega (arith, fits, len, all _ e, length-append rows left))) in
+    nil_from_length left (omega (arith, fits, len, all _ e, length-append rows left))) in
     let raw = reads-and head whole (λ rows rest fits ends. more_ends 1 rows rest ends) in
     reads-as list_text (IsList count) list parts raw (λ rest e. ap list_text is) fit text
     (λ other fits e. back other fits e ∙ sym is)
@@ -89,7 +89,7 @@ flat p = (p.0.0, p.1.0, p.1.1)
 -- a front, a count, as many numbers, and how many deltas were looked at
 pub rows-read : {before mid behind after : Left} {front count patched : ℕ} {list : List ℕ}
     → Reads (λ (n : ℕ × ℕ). two_fields (codes "rows front=") n.0 (codes " count=") n.1) (λ n. IsNumber n.0 × IsNumber n.1)
-      EndsNumber before (front, count) mid
+    EndsNumber before (front, count) mid
     → Reads list_text (IsList count) EndsNumber mid list behind
     → ((rest : List ℕ) → behind ≡ Some rest → length list ≡ count)
     → Reads (field (codes " patched=")) IsNumber EndsNumber behind patched after
@@ -98,10 +98,10 @@ unfolding flat
 rows-read {front = front} {count = count} {patched = patched} {list = list} head rows all last =
     let tail = reads-and rows last (λ n rest fit ends. field-ends (codes " patched=") n rest refl) in
     let raw = reads-given (λ (p : (ℕ × ℕ) × (List ℕ × ℕ)).
-      (IsNumber p.0.0 × IsNumber p.0.1) × (IsList p.0.1 p.1.0 × IsNumber p.1.1)) head tail (λ p fits. fits.0)
-      (λ p fits is. ((fits.1.0.0 ∙ ap (λ n. n.1) is, fits.1.0.1), fits.1.1))
-      (λ p rest fits ends. rw append_assoc (list_ends p.1.0 (field (codes " patched=") p.1.1 ++ rest))) in
+    (IsNumber p.0.0 × IsNumber p.0.1) × (IsList p.0.1 p.1.0 × IsNumber p.1.1)) head tail (λ p fits. fits.0)
+    (λ p fits is. ((fits.1.0.0 ∙ ap (λ n. n.1) is, fits.1.0.1), fits.1.1))
+    (λ p rest fits ends. rw append_assoc (list_ends p.1.0 (field (codes " patched=") p.1.1 ++ rest))) in
     reads-as _ _ _ (λ (rows : ℕ × List ℕ × ℕ). ((rows.0, length rows.1), (rows.1, rows.2))) raw
     (λ rest e. ap (λ n. two_fields (codes "rows front=") front (codes " count=") n ++ (list_text list ++ field (codes " patched=") patched))
-      (all _ (last.sound rest e)))
+    (all _ (last.sound rest e)))
     (λ rows fits. ((fits.0, fits.1), ((refl, fits.2), fits.3))) (λ rows fits. refl) (λ rows fits e. ap flat e)

@@ -47,7 +47,7 @@ pub line-reads : {r s t u v w : Left} {reply : Reply} (worker number : ℕ)
 unfolding reply_line two_fields field
 line-reads {reply = reply} worker number one two three reads end =
     let raw = passes-then one (passes-then two (passes-then three (then-passes reads end (λ rest ends. refl))
-      (λ x rest fit ends. tt)) (λ x rest fit ends. refl)) (λ x rest fit ends. refl) in
+    (λ x rest fit ends. tt)) (λ x rest fit ends. refl)) (λ x rest fit ends. refl) in
     reads-as _ _ _ (λ (reply : Reply). reply) raw (λ rest e. text reply) (λ x fits. fits) (λ x fits. text x) (λ x fits e. e)
   where
     text : (x : Reply) → reply_line worker number x
@@ -119,6 +119,6 @@ pub report-reads : {before mid after : Left} {replies : List (List Reply)} {jour
     → Reads (reply_lines 0) IsReplyTable EndsReplies before replies mid
     → Reads journal_bytes IsJournal Anything mid journal after
     → Reads (λ (report : List (List Reply) × List Delta). report_bytes report.0 report.1)
-      (λ report. IsReport report.0 report.1) Anything before (replies, journal) after
+    (λ report. IsReport report.0 report.1) Anything before (replies, journal) after
 unfolding report_bytes field
 report-reads one two = reads-and one two (λ journal rest fits ends. refl)

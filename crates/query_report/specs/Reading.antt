@@ -11,7 +11,7 @@ Left = Option (List ℕ)
 pub record Reads {V : Type 0} (text : V → List ℕ) (fits : V → Type 0) (follows : List ℕ → Type 0) (before : Left) (value : V) (after : Left) : Type 0 where
   pub sound : (rest : List ℕ) → after ≡ Some rest → before ≡ Some (text value ++ rest)
   pub finds : (other : V) (rest : List ℕ) → fits other → follows rest → before ≡ Some (text other ++ rest)
-    → (other ≡ value) × (after ≡ Some rest)
+      → (other ≡ value) × (after ≡ Some rest)
 
 -- a known text was passed over
 pub record Passes (text : List ℕ) (follows : List ℕ → Type 0) (before : Left) (after : Left) : Type 0 where
@@ -72,5 +72,5 @@ EndsWorker worker rest =
 -- what a look at the front says: whether a line of this worker stands there
 pub record IsAtWorker (worker : ℕ) (now : Left) (result : Bool) : Type 0 where
   pub line : (other : ℕ) (rest : List ℕ) → IsNumber other → EndsNumber rest
-    → now ≡ Some (field (codes "w") other ++ rest) → result ≡ (other == worker)
+      → now ≡ Some (field (codes "w") other ++ rest) → result ≡ (other == worker)
   pub none : begins 119 now ≡ false → result ≡ false

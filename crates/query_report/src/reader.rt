@@ -1,6 +1,6 @@
 //! A reader of a text from its front, in one pass and without memory. Once something is asked for that does not stand
 //! there the reader has failed, and stays so: nothing is left to read, and what it answers from then on means nothing.
-ghost use Rattle.std.specs.Prelude.{◌≡◌, ◌≢◌, ◌<◌, ◌≤◌, ◌^◌, ◌↔◌, ℕ, List, [], ◌∷◌, decimal, length, Some, None, IsTrue, if◌then◌else◌};
+ghost use Rattle.std.specs.Prelude.{◌≡◌, ◌≢◌, ◌<◌, ◌≤◌, ◌^◌, ◌↔◌, ℕ, List, [], ◌∷◌, codes, decimal, length, Some, None, IsTrue, if◌then◌else◌};
 ghost use Rattle.std.specs.List.{AllPass, prefix_len};
 ghost use Rattle.query_report.specs.Field.{field, two_digits};
 ghost use Rattle.query_report.specs.Reading.{Reads, Passes, Anything, EndsNumber, IsNumber, IsNumeral, begins, is_digit, spelled};
@@ -92,6 +92,14 @@ impl<'a> Reader<'a> {
             Some(rest) => self.rest = rest,
             None => self.is_fine = false,
         }
+    }
+
+    /// Passes over the end of a line.
+    #[inline(always)]
+    fn end_line(&mut self)
+        ensures { Passes (codes "\n") Anything self.old self.new }
+    {
+        self.label(b"\n");
     }
 
     /// A byte of any value.

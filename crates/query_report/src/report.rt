@@ -34,3 +34,6 @@ pub fn report_of(alloc: Global, bytes: &[u8]) -> Result<Option<Report>, Memory>
     }
     Ok(None)
 }
+
+#[cfg(test)]
+mod tests;

@@ -77,7 +77,7 @@ impl<'a> Reader<'a> {
         self.exactly(b" ", number);
         self.label(b" ");
         let reply = self.reply(alloc)?;
-        self.label(b"\n");
+        self.end_line();
         Ok(reply)
     }
 
@@ -86,7 +86,7 @@ impl<'a> Reader<'a> {
         ensures { IfOk result (λ deltas. Reads journal_bytes IsJournal Anything self.old deltas self.new) }
     {
         let count = self.field(b"journal ");
-        self.label(b"\n");
+        self.end_line();
         let mut deltas = DeltaList::new(alloc);
         for place in 0..count {
             if self.has_failed() {
@@ -106,7 +106,7 @@ impl<'a> Reader<'a> {
         let before = self.held();
         self.label(b" new=");
         let after = self.held();
-        self.label(b"\n");
+        self.end_line();
         Delta {
             author,
             row,

@@ -19,7 +19,7 @@ returns-then-is_done-clause-one c = λ replies journal is e.
     let reads = report-reads c.in_ok-replies.ensures c.in_ok-journal.ensures in
     let text = report_bytes replies journal in
     let found = (reads.finds (replies, journal) [] is tt
-      (c.new-reader.ensures ∙ ap Some (e ∙ sym (append-nil text)))).0 in
+    (c.new-reader.ensures ∙ ap Some (e ∙ sym (append-nil text)))).0 in
     (ap (λ p. p.0) found, ap (λ p. p.1) found)
 
 pub returns-clause-none : goal.returns-clause-none
@@ -27,5 +27,5 @@ returns-clause-none c = λ replies journal is e.
     let reads = report-reads c.in_ok-replies.ensures c.in_ok-journal.ensures in
     let text = report_bytes replies journal in
     let done = (reads.finds (replies, journal) [] is tt
-      (c.new-reader.ensures ∙ ap Some (e ∙ sym (append-nil text)))).1 in
+    (c.new-reader.ensures ∙ ap Some (e ∙ sym (append-nil text)))).1 in
     true≢false (sym (let yes = c.is_done.ensures.1 done in search rules) ∙ c.if-is_done.false)

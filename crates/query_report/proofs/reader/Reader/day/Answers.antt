@@ -58,9 +58,9 @@ returns-in-Some-clause-reads c =
     let day = c.pair-day.result in
     let n = c.in-Some.number in
     let raw = reads-and c.pair-century.ensures.reads (reads-and c.pair-year.ensures.reads
-      (passes-then c.label.ensures (reads-and c.pair-month.ensures.reads (passes-then c.label-2.ensures c.pair-day.ensures.reads
-      (λ n rest fit ends. tt)) (λ n rest fit ends. tt)) (λ n rest fit ends. tt))
-      (λ n rest fit ends. tt)) (λ n rest fit ends. tt) in
+    (passes-then c.label.ensures (reads-and c.pair-month.ensures.reads (passes-then c.label-2.ensures c.pair-day.ensures.reads
+    (λ n rest fit ends. tt)) (λ n rest fit ends. tt)) (λ n rest fit ends. tt))
+    (λ n rest fit ends. tt)) (λ n rest fit ends. tt) in
     let is : day_value (century * 100 + year) month day ≡ Some n =
     rw (← c.from.ensures, ← c.from-2.ensures) (sym c.in-Some.ensures.value) in
     reads-as _ _ n (λ n. parts (date_at n)) raw
@@ -73,9 +73,9 @@ pub returns-in-None-clause-reads : goal.returns-in-None-clause-reads
 unfolding parts text_of
 returns-in-None-clause-reads c =
     let raw = reads-and c.pair-century.ensures.reads (reads-and c.pair-year.ensures.reads
-      (passes-then c.label.ensures (reads-and c.pair-month.ensures.reads (passes-then c.label-2.ensures c.pair-day.ensures.reads
-      (λ n rest fit ends. tt)) (λ n rest fit ends. tt)) (λ n rest fit ends. tt))
-      (λ n rest fit ends. tt)) (λ n rest fit ends. tt) in
+    (passes-then c.label.ensures (reads-and c.pair-month.ensures.reads (passes-then c.label-2.ensures c.pair-day.ensures.reads
+    (λ n rest fit ends. tt)) (λ n rest fit ends. tt)) (λ n rest fit ends. tt))
+    (λ n rest fit ends. tt)) (λ n rest fit ends. tt) in
     let is = rw (c.from.ensures, c.from-2.ensures) at c.in-None.ensures.value in
     reads-not _ _ _ _ (λ n. parts (date_at n)) raw c.expect.ensures
     (λ x fits. let is = few x fits in (is.0, (is.1, (is.2, is.3)))) (λ x fits. date_is x fits)

@@ -37,8 +37,8 @@ pub returns-in-Some : goal.returns-in-Some
 unfolding parts text_of
 returns-in-Some c =
     let raw = reads-and c.number-whole.ensures.reads (passes-then c.label.ensures
-      (reads-and c.pair-high.ensures.reads c.pair-low.ensures.reads (λ n rest fit ends. tt)) (λ n rest fit ends. tt))
-      (λ n rest fit ends. refl) in
+    (reads-and c.pair-high.ensures.reads c.pair-low.ensures.reads (λ n rest fit ends. tt)) (λ n rest fit ends. tt))
+    (λ n rest fit ends. refl) in
     let units = c.in-Some.units in
     let is : units ≡ c.number-whole.result * 10_000 + (c.pair-high.result * 100 + c.pair-low.result) =
     omega (arith, c.in-Some.ensures.some) in
@@ -51,9 +51,9 @@ pub returns-in-None : goal.returns-in-None
 unfolding parts text_of
 returns-in-None c =
     let raw = reads-and c.number-whole.ensures.reads (passes-then c.label.ensures
-      (reads-and c.pair-high.ensures.reads c.pair-low.ensures.reads (λ n rest fit ends. tt)) (λ n rest fit ends. tt))
-      (λ n rest fit ends. refl) in
+    (reads-and c.pair-high.ensures.reads c.pair-low.ensures.reads (λ n rest fit ends. tt)) (λ n rest fit ends. tt))
+    (λ n rest fit ends. refl) in
     reads-not _ _ _ _ parts raw c.expect.ensures
     (λ n fits. (omega arith, (omega arith, omega arith))) (λ n fits. text_is n)
     (λ n fits e. let is = whole_is n c.number-whole.result c.pair-high.result c.pair-low.result e in
-      omega (arith, fits, c.in-None.ensures.none))
+    omega (arith, fits, c.in-None.ensures.none))

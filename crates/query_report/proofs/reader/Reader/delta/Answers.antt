@@ -16,8 +16,8 @@ pub returns : goal.returns
 unfolding delta_line made
 returns c =
     let tuples = passes-then c.label.ensures (reads-and c.held-before.ensures (passes-then c.label-2.ensures
-      (then-passes c.held-after.ensures c.label-3.ensures (λ rest ends. tt)) (λ x rest fit ends. tt))
-      (λ x rest fit ends. tt)) (λ x rest fit ends. tt) in
+    (then-passes c.held-after.ensures c.end_line.ensures (λ rest ends. tt)) (λ x rest fit ends. tt))
+    (λ x rest fit ends. tt)) (λ x rest fit ends. tt) in
     let raw = reads-and c.place-author.ensures tuples (λ x rest fit ends. refl) in
     reads-as _ _ _ (λ (d : Delta). ((d.author, d.key, d.row), (d.before, d.after))) raw (λ rest e. refl)
     (λ d fits. ((fits.author, (fits.order, fits.key), fits.row), (fits.before, fits.after))) (λ d fits. refl)

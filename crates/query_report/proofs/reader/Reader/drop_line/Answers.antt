@@ -12,7 +12,7 @@ pub returns-in-Some : goal.returns-in-Some
 unfolding field
 returns-in-Some c =
     let raw = passes-then c.label.ensures (reads-and c.byte-letter.ensures c.field-number.ensures (λ n rest fit ends. tt))
-      (λ n rest fit ends. tt) in
+    (λ n rest fit ends. tt) in
     let line = c.in-Some.line in
     let is = c.in-Some.ensures.some in
     let text : drop_text line ≡ c.byte-letter.result ∷ field [] c.field-number.result =
@@ -28,7 +28,7 @@ pub returns-in-None : goal.returns-in-None
 unfolding field
 returns-in-None c =
     let raw = passes-then c.label.ensures (reads-and c.byte-letter.ensures c.field-number.ensures (λ n rest fit ends. tt))
-      (λ n rest fit ends. tt) in
+    (λ n rest fit ends. tt) in
     reads-not _ _ _ _ (λ (line : DropLine). (drop_letter line, drop_number line)) raw c.expect.ensures
     (λ line fits. (tt, fits)) (λ line fits. refl)
     (λ other fits e. none other (c.in-None.ensures.only other (ap (λ p. p.0) e) (ap (λ p. p.1) e)))

@@ -11,6 +11,6 @@ pub returns : goal.returns
 unfolding flat
 returns c =
     let raw = reads-and c.two-front.ensures (passes-then c.label.ensures c.tuple-tuple.ensures (λ n rest fit ends. tt))
-      (λ n rest fit ends. refl) in
+    (λ n rest fit ends. refl) in
     reads-as _ _ _ (λ (f : ℕ × ℕ × TupleValue). ((f.0, f.1), f.2)) (reads-before EndsNumber raw (λ rest ends. tt))
     (λ rest e. refl) (λ f fits. ((fits.0, fits.1), fits.2)) (λ f fits. refl) (λ f fits e. ap flat e)

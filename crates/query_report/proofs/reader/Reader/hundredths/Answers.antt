@@ -36,7 +36,7 @@ returns-clause-reads c =
     let n = c.from.result * 100 + c.from-2.result in
     let is : n ≡ whole * 100 + part = omega (arith, c.from.ensures, c.from-2.ensures) in
     let raw = reads-and c.field-whole.ensures (passes-then c.label.ensures c.pair-part.ensures.reads
-      (λ n rest fit ends. tt)) (λ n rest fit ends. refl) in
+    (λ n rest fit ends. tt)) (λ n rest fit ends. refl) in
     reads-as _ _ n parts raw (λ rest e. text_is n ∙ ap text_of (parts_are n whole part is c.pair-part.ensures.within))
     (λ x fits. (omega arith, omega arith)) (λ x fits. text_is x) (λ x fits e. whole_is x whole part e ∙ sym is)
 
@@ -44,7 +44,7 @@ pub returns-then-number-from-clause-reads : goal.returns-then-number-from-clause
 unfolding parts text_of
 returns-then-number-from-clause-reads c =
     let raw = reads-and c.field-whole.ensures (passes-then c.label.ensures c.pair-part.ensures.reads
-      (λ n rest fit ends. tt)) (λ n rest fit ends. refl) in
+    (λ n rest fit ends. tt)) (λ n rest fit ends. refl) in
     reads-not _ _ _ _ parts raw c.expect.ensures (λ x fits. (omega arith, omega arith)) (λ x fits. text_is x)
     (λ x fits e. let is = whole_is x c.field-whole.result c.pair-part.result e in
-      omega (arith, c.from.ensures, c.from-2.ensures, c.from-3.ensures))
+    omega (arith, c.from.ensures, c.from-2.ensures, c.from-3.ensures))

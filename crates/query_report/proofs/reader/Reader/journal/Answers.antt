@@ -13,11 +13,11 @@ loop-place-init c = record {
 pub loop-place-preserved : goal.loop-place-preserved
 loop-place-preserved c = record {
   reads = reads-more c.loop-place.invariant.reads c.delta.ensures (omega arith) c.in_ok-push.ensures.ok
-    (λ y left rest is ends. tt) (λ rest is ends e. omega arith);
+      (λ y left rest is ends. tt) (λ rest is ends e. omega arith);
   count = omega (arith, ap length c.in_ok-push.ensures.ok, length_push c.loop-place.deltas c.delta.result);
 }
 
 pub returns : goal.returns
 returns c =
-    journal-reads (then-passes c.field-count.ensures c.label.ensures (λ rest ends. refl)) c.loop-place.invariant.reads
+    journal-reads (then-passes c.field-count.ensures c.end_line.ensures (λ rest ends. refl)) c.loop-place.invariant.reads
     (λ rest e. omega arith)

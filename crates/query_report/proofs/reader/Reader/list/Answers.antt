@@ -21,13 +21,13 @@ loop-preserved c =
     let list = c.loop.list in
     let pushed = c.push-in-loop.new.self in
     let is = push_behind c.push.new.self list pushed c.field-in-loop.result c.loop.invariant.first (omega arith)
-      c.in_ok-push-2.ensures.ok in
+    c.in_ok-push-2.ensures.ok in
     let len : length list ≡ length (drop 1 list) + 1 = omega (arith, length-drop 1 list) in
     record {
       first = is.1;
       count = omega (arith, ap length c.in_ok-push-2.ensures.ok, length_push list c.field-in-loop.result);
       reads = reads-more {n = c.loop.counter} c.loop.invariant.reads c.field-in-loop.ensures (omega arith) is.0
-        (λ row left rest whole ends. more_ends _ left rest ends) (λ rest whole ends e. omega arith);
+          (λ row left rest whole ends. more_ends _ left rest ends) (λ rest whole ends e. omega arith);
     }
 
 pub returns-then-has_failed-clause-reads : goal.returns-then-has_failed-clause-reads

@@ -10,5 +10,5 @@ invariant-loop l = record {
   first : l.list ≡ l.initial.list ++ drop 1 l.list;
   count : length l.list ≡ l.counter;
   reads : ReadsSome (λ place. field (codes ",")) IsNumber (λ rows. length rows + 1 ≡ l.count) EndsNumber 1
-    l.initial.self (drop 1 l.list) l.self;
+      l.initial.self (drop 1 l.list) l.self;
 }

@@ -13,7 +13,7 @@ loop-worker-init c = record {
 pub returns-then-not-is_at-clause-reads : goal.returns-then-not-is_at-clause-reads
 returns-then-not-is_at-clause-reads c =
     reads-whole c.loop-worker.invariant.reads (λ left rest is ends e.
-      lists_done _ c.loop-worker.lists.items left rest c.loop-worker.self is.1 (sym c.is_at.ensures ∙ c.if-not-is_at.true) e)
+    lists_done _ c.loop-worker.lists.items left rest c.loop-worker.self is.1 (sym c.is_at.ensures ∙ c.if-not-is_at.true) e)
 
 pub loop-worker-preserved : goal.loop-worker-preserved
 loop-worker-preserved c =
@@ -21,9 +21,9 @@ loop-worker-preserved c =
     let worker = c.loop-worker.worker in
     record {
       reads = reads-more {n = worker} c.loop-worker.invariant.reads c.in_ok-replies_of.ensures (omega arith) c.in_ok-push.ensures.items
-        (λ list left rest is ends. later_ends worker (worker + 1) left rest (omega arith)
+          (λ list left rest is ends. later_ends worker (worker + 1) left rest (omega arith)
           (omega (arith, is.0, length-append lists (list ∷ left))) ends)
-        (λ rest is ends e. lists_go rest c.loop-worker.self (sym c.is_at.ensures ∙ c.if-not-is_at.false) ends e);
+          (λ rest is ends e. lists_go rest c.loop-worker.self (sym c.is_at.ensures ∙ c.if-not-is_at.false) ends e);
       count = omega (arith, ap length c.in_ok-push.ensures.items, length_push lists c.in_ok-replies_of.field-0);
     }
 

@@ -9,6 +9,6 @@ use Rattle.query_report.proofs.reader.Reader.lists.Given as goal
 abbrev pub invariant-loop-worker : goal.invariant-loop-worker
 invariant-loop-worker l = record {
   reads : ReadsSome (λ worker. worker_lines worker 1) IsReplyList (λ lists. (length lists ≤ 256) × EndsInReply lists)
-    EndsReplies 0 l.initial.self l.lists.items l.self;
+      EndsReplies 0 l.initial.self l.lists.items l.self;
   count : length l.lists.items ≡ l.worker;
 }

@@ -13,12 +13,12 @@ loop-at-init c = record {
 pub returns-then-not-is_at_worker : goal.returns-then-not-is_at_worker
 returns-then-not-is_at_worker c =
     reads-whole c.loop-at.invariant.reads (λ left rest is ends e.
-      worker_done c.args.worker _ left rest c.loop-at.self (omega arith) c.if-not-is_at_worker.ensures e)
+    worker_done c.args.worker _ left rest c.loop-at.self (omega arith) c.if-not-is_at_worker.ensures e)
 
 pub loop-at-preserved : goal.loop-at-preserved
 loop-at-preserved c = record {
   reads = reads-more {n = c.loop-at.at + 1} c.loop-at.invariant.reads c.in_ok-reply_line.ensures (omega arith) c.in_ok-push.ensures.ok
-    (λ reply left rest is ends. tt) (λ rest is ends e. worker_goes c.args.worker rest c.loop-at.self c.if-not-is_at_worker.ensures ends e);
+      (λ reply left rest is ends. tt) (λ rest is ends e. worker_goes c.args.worker rest c.loop-at.self c.if-not-is_at_worker.ensures ends e);
   count = omega (arith, ap length c.in_ok-push.ensures.ok, length_push c.loop-at.list c.in_ok-reply_line.field-0);
 }
 

@@ -9,6 +9,6 @@ use Rattle.query_report.proofs.reader.Reader.replies_of.Given as goal
 abbrev pub invariant-loop-at : goal.invariant-loop-at
 invariant-loop-at l = record {
   reads : ReadsSome (reply_line l.worker) IsReply (λ list. IsNumber (length list)) (EndsWorker l.worker) 1
-    l.initial.self l.list l.self;
+      l.initial.self l.list l.self;
   count : length l.list ≡ l.at;
 }

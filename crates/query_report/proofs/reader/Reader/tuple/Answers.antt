@@ -39,11 +39,11 @@ pub returns : goal.returns
 unfolding parts text_of made
 returns c =
     let flag = passes-then c.label.ensures (reads-and c.flag-flag.ensures (passes-then c.label-2.ensures
-      (reads-and c.status-status.ensures (passes-then c.label-3.ensures c.day-day.ensures.reads (λ x rest fit ends. tt))
-      (λ x rest fit ends. tt)) (λ x rest fit ends. tt)) (λ x rest fit ends. tt)) (λ x rest fit ends. tt) in
+    (reads-and c.status-status.ensures (passes-then c.label-3.ensures c.day-day.ensures.reads (λ x rest fit ends. tt))
+    (λ x rest fit ends. tt)) (λ x rest fit ends. tt)) (λ x rest fit ends. tt)) (λ x rest fit ends. tt) in
     let raw = reads-and c.field_within-qty.ensures.reads (reads-and c.hundredths-price.ensures.reads
-      (reads-and c.hundredths-disc.ensures.reads (reads-and c.hundredths-tax.ensures.reads flag (λ x rest fit ends. tt))
-      (λ x rest fit ends. tt)) (λ x rest fit ends. tt)) (λ x rest fit ends. refl) in
+    (reads-and c.hundredths-disc.ensures.reads (reads-and c.hundredths-tax.ensures.reads flag (λ x rest fit ends. tt))
+    (λ x rest fit ends. tt)) (λ x rest fit ends. tt)) (λ x rest fit ends. refl) in
     reads-as _ _ _ parts raw (λ rest e. text_is _)
     (λ t fits. ((fits.qty_low, fits.qty_high), (fits.price, (fits.disc, (fits.tax, (tt, (tt, fits.day)))))))
     (λ t fits. text_is t) (λ t fits e. ap made e)
