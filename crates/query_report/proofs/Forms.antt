@@ -7,7 +7,7 @@ use Rattle.query_report.specs.declared.reply.DropLine.{DropLine}
 use Rattle.query_report.specs.declared.reply.Reply.{Reply}
 use Rattle.query_report.specs.declared.reply.Reply.TheVariants.{Placed, Duplicate, Missing, TableFull, LogFull, DropLines, Found, Absent, Rows, Count, Sum, Q6, Merge}
 use Rattle.query_report.specs.Field.{field, two_fields}
-use Rattle.query_report.specs.Form.{form_of, form_at}
+use Rattle.query_report.specs.Form.{form_of, form_at, ReadsForm}
 use Rattle.query_report.specs.Reading.{Left, Reads, EndsNumber}
 use Rattle.query_report.specs.Reply.{reply_bytes}
 use Rattle.query_report.specs.Report.{IsReply}
@@ -81,16 +81,23 @@ parts_of (Sum front count sum patched) = ((front, count, sum, patched), refl)
 parts_of (Q6 front count sum patched) = ((front, count, sum, patched), refl)
 parts_of (Merge merged fresh busy) = ((merged, fresh, busy), refl)
 
--- a reply of the form that the front tells is read by reading its parts
-pub reply-reads : {before after : Left} (f : Form) {parts : Parts f}
+-- a reply of a form is read by reading its parts
+pub form-reads : {before after : Left} (f : Form) {parts : Parts f}
     → Reads (λ parts. reply_bytes (made f parts)) (λ parts. IsReply (made f parts)) EndsNumber before parts after
-    → Tells before f → Reads reply_bytes IsReply EndsNumber before (made f parts) after
-reply-reads {before = before} f {parts = parts} reads tells = record {
+    → ReadsForm f before (made f parts) after
+form-reads {before = before} f {parts = parts} reads = record {
   sound = reads.sound;
   finds = λ other rest fits ends e.
-      let same = told other rest before f e tells in
-      let whole = subst (λ (f : Form). (parts : Parts f) × (other ≡ made f parts)) (sym same) (parts_of other) in
-      let found = reads.finds whole.0 rest (subst IsReply whole.1 fits) ends
+    let whole = subst (λ (f : Form). (parts : Parts f) × (other ≡ made f parts)) fits.1 (parts_of other) in
+    let found = reads.finds whole.0 rest (subst IsReply whole.1 fits.0) ends
       (e ∙ ap (λ other. Some (reply_bytes other ++ rest)) whole.1) in
-      (whole.1 ∙ ap (made f) found.0, found.1);
+    (whole.1 ∙ ap (made f) found.0, found.1);
+}
+
+-- and a reply of the form that the front tells is read as one of this form
+pub reply-reads : {before after : Left} {reply : Reply} (f : Form) → ReadsForm f before reply after → Tells before f
+    → Reads reply_bytes IsReply EndsNumber before reply after
+reply-reads {before = before} f reads tells = record {
+  sound = reads.sound;
+  finds = λ other rest fits ends e. reads.finds other rest (fits, sym (told other rest before f e tells)) ends e;
 }

@@ -142,7 +142,8 @@ reads-not text fits made after parts reads none fit same other = record {
 }
 
 -- a number behind a label
-pub field-reads : {label : List ℕ} {before mid after : Left} {n : ℕ} (fits : ℕ → Type 0) → Passes label Anything before mid
+pub field-reads : {label : List ℕ} {before mid after : Left} {n : ℕ} (fits : ℕ → Type 0)
+    → Passes label Anything before mid
     → Reads decimal (λ n. n < 10_000_000_000_000_000) EndsNumber mid n after
     → ((x : ℕ) → fits x → x < 10_000_000_000_000_000) → Reads (field label) fits EndsNumber before n after
 unfolding field

@@ -1,9 +1,12 @@
 -- The forms of replies, told apart by their first two bytes.
-use Rattle.std.specs.Prelude.{ℕ, ◌==◌, if◌then◌else◌}
+use Rattle.std.specs.Prelude.{◌≡◌, ℕ, ◌==◌, if◌then◌else◌}
 use Rattle.query_report.specs.declared.reader.reply.Form.{Form}
 use Rattle.query_report.specs.declared.reader.reply.Form.TheVariants as form
 use Rattle.query_report.specs.declared.reply.Reply.{Reply}
 use Rattle.query_report.specs.declared.reply.Reply.TheVariants.{Placed, Duplicate, Missing, TableFull, LogFull, DropLines, Found, Absent, Rows, Count, Sum, Q6, Merge}
+use Rattle.query_report.specs.Reading.{Left, Reads, EndsNumber}
+use Rattle.query_report.specs.Reply.{reply_bytes}
+use Rattle.query_report.specs.Report.{IsReply}
 
 abbrev pub form_of : Reply → Form
 form_of (Placed place row) = form.Placed
@@ -34,3 +37,10 @@ form_at first second =
     else (if first == 113 then form.Q6
     else (if first == 100 then (if second == 117 then form.Duplicate else form.DropLines)
     else (if second == 105 then form.Missing else form.Merge))))))))))
+
+-- a reply of this form
+abbrev pub IsReplyOf : Form → Reply → Type 0
+IsReplyOf f reply = IsReply reply × (form_of reply ≡ f)
+
+abbrev pub ReadsForm : Form → Left → Reply → Left → Type 0
+ReadsForm f before reply after = Reads reply_bytes (IsReplyOf f) EndsNumber before reply after

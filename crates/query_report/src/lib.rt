@@ -1,12 +1,15 @@
-//! The texts of the program: replies and the journal of a run, the line of an answer, and what standard error is told
-//! of a call that wrote none. Each is fixed byte for byte, as docs/FORMATS.md gives it. `ReplyTable` keeps the replies
-//! of all workers.
+//! The texts of the program: replies and the journal of a run, which a report consists of and which are read from it
+//! again, the line of an answer, and what standard error is told of a call that wrote none. Each is fixed byte for byte,
+//! as docs/FORMATS.md gives it. `ReplyTable` keeps the replies of all workers.
 //!
 //! # Proved
 //!
 //! - `reply_text`: the line of a worker's reply to a command (`reply_line`), one form for each kind of reply.
 //! - `journal_text`: the number of the deltas, and the line of each in order (`journal_bytes`). A date is the day so
 //!   many days after 1 January 1992 on the calendar (`date_at`).
+//! - `report_of`: the replies and the journal whose report (`report_bytes`) the bytes are (`some`); none exactly where no
+//!   replies and no journal, with numbers within the ranges of their types (`IsReport`), have these bytes (`none`). No
+//!   two reports have the same bytes (`one`).
 //! - `ReplyTable`: contracts see it as a list of replies for each worker. `add`: the reply stands at the end of the
 //!   worker's list, and lists that were missing before it are empty (`ok`), or nothing changed (`err`). `get`, `len`,
 //!   `workers`: what that list has.
@@ -17,13 +20,14 @@
 //!
 //! # Only tested
 //!
-//! That the texts are the ones meant: a row for each of them, with the least and the greatest numbers.
+//! That the texts are the ones meant: a row for each of them, with the least and the greatest numbers. That reading a
+//! report takes time in proportion to its length, also where one line has 100,000 numbers.
 //!
 //! # Not said
 //!
-//! - That memory is found for a text or a reply.
+//! - That memory is found for a text, a reply or a report.
 //! - What a sink does with what it took.
-//! - That a reply is true of anything: a table takes any replies.
+//! - That a reply is true of anything: a table takes any replies, and a report may have any.
 //!
 //! # Example
 //!
@@ -32,6 +36,7 @@
 //! replies.add(alloc, 0, Reply::Missing { front: log_len })?;
 //! let line = reply_text(alloc, 0, replies.len(0), &Reply::Missing { front: log_len })?;
 //! let journal = journal_text(alloc, &deltas)?;
+//! let found = report_of(alloc, b"w0 1 missing front=0\njournal 0\n")?;
 //! ```
 #![tactic(auto)]
 

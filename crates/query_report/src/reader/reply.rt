@@ -4,7 +4,8 @@ ghost use Rattle.std.specs.List.{AllByRecursion};
 ghost use Rattle.query_report.specs.declared.reply.DropLine.{DropLine as ALine};
 ghost use Rattle.query_report.specs.Decimal.{decimal4_text};
 ghost use Rattle.query_report.specs.Field.{field, two_fields};
-ghost use Rattle.query_report.specs.Form.{form_at};
+ghost use Rattle.query_report.specs.declared.reader.reply.Form.TheVariants as form;
+ghost use Rattle.query_report.specs.Form.{form_at, ReadsForm};
 ghost use Rattle.query_report.specs.Reading.{Reads, Anything, EndsNumber, IsNumber, IsLabel};
 ghost use Rattle.query_report.specs.Reply.{drop_letter, drop_number, drop_text, drop_reply, list_text, rows_reply, found_text, sum_text, reply_bytes};
 ghost use Rattle.query_report.specs.Report.{IsDropLine, IsReply, IsSum, IsFound, IsRows, IsAnswer};
@@ -12,7 +13,7 @@ ghost use Rattle.query_report.specs.Report.{IsDropLine, IsReply, IsSum, IsFound,
 use super::Reader;
 use crate::reply::deleted_count;
 use crate::{DropLine, Memory, Reply};
-use cubit_base::{RowList, Tuple};
+use cubit_base::RowList;
 use std::alloc::Global;
 
 // The forms of replies.
@@ -35,27 +36,12 @@ enum Form {
 
 impl<'a> Reader<'a> {
     /// A reply.
-    #[tactic(auto, unfolding(crate::specs::Reply::reply_bytes))]
     pub(super) fn reply(&mut self, alloc: Global) -> Result<Reply, Memory>
         ensures { IfOk result (λ reply. Reads reply_bytes IsReply EndsNumber self.old reply self.new) }
     {
         match self.form() {
-            Form::Rows => {
-                let (front, list, patched) = self.rows(alloc)?;
-                Ok(Reply::Rows {
-                    front,
-                    list,
-                    patched,
-                })
-            }
-            Form::Placed => {
-                let (place, row) = self.two(b"placed at=", b" row=");
-                Ok(Reply::Placed { place, row })
-            }
-            Form::Duplicate => {
-                let (front, row) = self.two(b"duplicate front=", b" row=");
-                Ok(Reply::Duplicate { front, row })
-            }
+            Form::Placed => Ok(self.placed()),
+            Form::Duplicate => Ok(self.duplicate()),
             Form::Missing => {
                 let front = self.field(b"missing front=");
                 Ok(Reply::Missing { front })
@@ -68,52 +54,17 @@ impl<'a> Reader<'a> {
                 let front = self.field(b"log-full front=");
                 Ok(Reply::LogFull { front })
             }
-            Form::DropLines => {
-                let lines = self.drop_lines();
-                Ok(Reply::DropLines(lines))
-            }
-            Form::Found => {
-                let (front, row, tuple) = self.found();
-                Ok(Reply::Found { front, row, tuple })
-            }
+            Form::DropLines => Ok(Reply::DropLines(self.drop_lines())),
+            Form::Found => Ok(self.found()),
             Form::Absent => {
                 let front = self.field(b"absent front=");
                 Ok(Reply::Absent { front })
             }
-            Form::Count => {
-                let (front, count, patched) = self.three(b"count front=", b" count=", b" patched=");
-                Ok(Reply::Count {
-                    front,
-                    count,
-                    patched,
-                })
-            }
-            Form::Sum => {
-                let (front, count, sum, patched) = self.sum(b"sum front=");
-                Ok(Reply::Sum {
-                    front,
-                    count,
-                    sum,
-                    patched,
-                })
-            }
-            Form::Q6 => {
-                let (front, count, sum, patched) = self.sum(b"q6 front=");
-                Ok(Reply::Q6 {
-                    front,
-                    count,
-                    sum,
-                    patched,
-                })
-            }
-            Form::Merge => {
-                let (merged, fresh, busy) = self.three(b"merge merged=", b" fresh=", b" busy=");
-                Ok(Reply::Merge {
-                    merged,
-                    fresh,
-                    busy,
-                })
-            }
+            Form::Rows => self.rows(alloc),
+            Form::Count => Ok(self.count()),
+            Form::Sum => Ok(self.sum()),
+            Form::Q6 => Ok(self.q6()),
+            Form::Merge => Ok(self.merge()),
         }
     }
 
@@ -152,18 +103,85 @@ impl<'a> Reader<'a> {
         (first, second, third)
     }
 
-    fn found(&mut self) -> (u32, u32, Tuple)
-        ensures { Reads (λ found. found_text found.0 found.1 found.2) IsFound EndsNumber self.old result self.new }
+    #[inline(always)]
+    fn placed(&mut self) -> Reply
+        ensures { ReadsForm form.Placed self.old result self.new }
+    {
+        let (place, row) = self.two(b"placed at=", b" row=");
+        Reply::Placed { place, row }
+    }
+
+    #[inline(always)]
+    fn duplicate(&mut self) -> Reply
+        ensures { ReadsForm form.Duplicate self.old result self.new }
+    {
+        let (front, row) = self.two(b"duplicate front=", b" row=");
+        Reply::Duplicate { front, row }
+    }
+
+    #[inline(always)]
+    fn found(&mut self) -> Reply
+        ensures { ReadsForm form.Found self.old result self.new }
     {
         let (front, row) = self.two(b"found front=", b" row=");
         self.label(b" tuple=");
         let tuple = self.tuple();
-        (front, row, tuple)
+        Reply::Found { front, row, tuple }
+    }
+
+    #[inline(always)]
+    fn count(&mut self) -> Reply
+        ensures { ReadsForm form.Count self.old result self.new }
+    {
+        let (front, count, patched) = self.three(b"count front=", b" count=", b" patched=");
+        Reply::Count {
+            front,
+            count,
+            patched,
+        }
+    }
+
+    #[inline(always)]
+    fn sum(&mut self) -> Reply
+        ensures { ReadsForm form.Sum self.old result self.new }
+    {
+        let (front, count, sum, patched) = self.answer(b"sum front=");
+        Reply::Sum {
+            front,
+            count,
+            sum,
+            patched,
+        }
+    }
+
+    #[inline(always)]
+    fn q6(&mut self) -> Reply
+        ensures { ReadsForm form.Q6 self.old result self.new }
+    {
+        let (front, count, sum, patched) = self.answer(b"q6 front=");
+        Reply::Q6 {
+            front,
+            count,
+            sum,
+            patched,
+        }
+    }
+
+    #[inline(always)]
+    fn merge(&mut self) -> Reply
+        ensures { ReadsForm form.Merge self.old result self.new }
+    {
+        let (merged, fresh, busy) = self.three(b"merge merged=", b" fresh=", b" busy=");
+        Reply::Merge {
+            merged,
+            fresh,
+            busy,
+        }
     }
 
     // A front, a count, a sum, and how many deltas were looked at.
     #[inline(always)]
-    fn sum(&mut self, label: &[u8]) -> (u32, u32, u64, u32)
+    fn answer(&mut self, label: &[u8]) -> (u32, u32, u64, u32)
         ensures { Reads (λ s. sum_text label.now s.0 s.1 s.2 s.3) IsAnswer EndsNumber self.old result self.new }
     {
         let (front, count) = self.two(label, b" count=");
@@ -224,15 +242,18 @@ impl<'a> Reader<'a> {
         }
     }
 
-    // A front, a list, and how many deltas were looked at.
-    fn rows(&mut self, alloc: Global) -> Result<(u32, RowList, u32), Memory>
-        ensures { IfOk result (λ rows. Reads (λ rows. rows_reply rows.0 rows.1 rows.2) IsRows EndsNumber
-            self.old rows self.new) }
+    #[inline(always)]
+    fn rows(&mut self, alloc: Global) -> Result<Reply, Memory>
+        ensures { IfOk result (λ reply. ReadsForm form.Rows self.old reply self.new) }
     {
         let (front, count) = self.two(b"rows front=", b" count=");
         let list = self.list(alloc, count)?;
         let patched = self.field(b" patched=");
-        Ok((front, list, patched))
+        Ok(Reply::Rows {
+            front,
+            list,
+            patched,
+        })
     }
 
     // A list of so many numbers.

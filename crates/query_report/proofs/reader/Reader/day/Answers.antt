@@ -40,7 +40,8 @@ parts_are n century year month day within few is =
     let b : (century * 100 + year) % 100 ≡ year = omega arith in
     ap (λ d. (d.year / 100, (d.year % 100, (d.month, d.day)))) (date_at-value (century * 100 + year) month day n within is) ∙ rw (a, b) refl
 
-few : (n : ℕ) → n ≤ 2556 → ((date_at n).year / 100 < 100) × ((date_at n).year % 100 < 100) × ((date_at n).month < 100) × ((date_at n).day < 100)
+few : (n : ℕ) → n ≤ 2556 → ((date_at n).year / 100 < 100) × ((date_at n).year % 100 < 100) × ((date_at n).month < 100)
+    × ((date_at n).day < 100)
 few n within = let is = date_at-within n within in (omega arith, omega arith, is.1, is.2)
 
 same : (a b : ℕ) → Some a ≡ Some b → a ≡ b
