@@ -88,10 +88,10 @@ pub form-reads : {before after : Left} (f : Form) {parts : Parts f}
 form-reads {before = before} f {parts = parts} reads = record {
   sound = reads.sound;
   finds = λ other rest fits ends e.
-    let whole = subst (λ (f : Form). (parts : Parts f) × (other ≡ made f parts)) fits.1 (parts_of other) in
-    let found = reads.finds whole.0 rest (subst IsReply whole.1 fits.0) ends
+      let whole = subst (λ (f : Form). (parts : Parts f) × (other ≡ made f parts)) fits.1 (parts_of other) in
+      let found = reads.finds whole.0 rest (subst IsReply whole.1 fits.0) ends
       (e ∙ ap (λ other. Some (reply_bytes other ++ rest)) whole.1) in
-    (whole.1 ∙ ap (made f) found.0, found.1);
+      (whole.1 ∙ ap (made f) found.0, found.1);
 }
 
 -- and a reply of the form that the front tells is read as one of this form

@@ -1,9 +1,10 @@
-//! Reports: the replies and the journal of a run, read again from their text.
+//! Reports: the replies and the journal of a run as a text, both ways.
 ghost use Rattle.std.specs.Prelude.{◌≡◌, ◌≢◌, ℕ, List, Some, IfOk, IfSome, IfNone};
 ghost use Rattle.cubit_base.specs.declared.delta.Delta.{Delta as ADelta};
 ghost use Rattle.query_report.specs.declared.reply.Reply.{Reply as AReply};
 ghost use Rattle.query_report.specs.Report.{IsReport, report_bytes};
 
+use crate::journal::put_journal;
 use crate::reader::Reader;
 use crate::{Memory, ReplyTable};
 use cubit_base::DeltaList;
@@ -14,6 +15,21 @@ use std::alloc::Global;
 pub struct Report {
     pub replies: ReplyTable,
     pub journal: DeltaList,
+}
+
+/// The text of a report: the lines of all replies, worker by worker, and then the journal.
+#[tactic(auto, unfolding(crate::specs::Report::report_bytes))]
+pub fn report_text(
+    alloc: Global,
+    replies: &ReplyTable,
+    journal: &DeltaList,
+) -> Result<Vec<u8>, Memory>
+    ensures { IfOk result (λ text. text.items ≡ report_bytes replies.now journal.now) }
+{
+    let mut text = Vec::new(alloc);
+    replies.put_lines(&mut text)?;
+    put_journal(&mut text, journal)?;
+    Ok(text)
 }
 
 /// The report that has these bytes, or none where no report has them.

@@ -19,7 +19,10 @@ fn written(alloc: Global, report: &Report) -> Result<Vec<u8>, Memory> {
 // Whether the text is that of the report it is read as; none where it is no report.
 fn reads_back(alloc: Global, text: &[u8]) -> Result<Option<bool>, Memory> {
     match report_of(alloc, text)? {
-        Some(report) => Ok(Some(written(alloc, &report)?.as_slice() == text)),
+        Some(report) => {
+            let again = report_text(alloc, &report.replies, &report.journal)?;
+            Ok(Some(again.as_slice() == text))
+        }
         None => Ok(None),
     }
 }
