@@ -1,5 +1,5 @@
 -- The dates of the days from 1 January 1992 to 31 December 1998.
-use Rattle.std.proofs.Common.{inl, inr, ◌≡◌, ℕ, zero, suc, ◌+◌, ◌<◌, ◌≤◌, ◌∙◌, ◌&&◌, nat_le, nat_lt, Bool, true, false, cond, Some, None, pos, refl, sym, ap, zero-add, arith, leb-true}
+use Rattle.std.proofs.Common.{inl, inr, ◌≡◌, ℕ, zero, suc, ◌+◌, ◌<◌, ◌≤◌, ◌∙◌, ◌&&◌, nat_le, nat_lt, Bool, true, false, cond, Some, None, pos, refl, sym, ap, zero-add, arith, le-leb, leb-true}
 use Rattle.std.proofs.lemmas.Bool.{cases_Bool, cases_order, and_parts, ltb-true, ltb-false}
 use Rattle.std.proofs.lemmas.Int.{ints}
 use Rattle.jiff_core.specs.Calendar.{day_count, days_in_month, days_in_year, IsCivilDate}
@@ -223,3 +223,29 @@ date_at-value year month day n within is =
         let made_of : ℕ → ℕ → ℕ → DateValue = λ y m d. record { year = y; month = m; day = d } in
         ap (λ y. made_of y a.month a.day) year ∙ ap (λ m. made_of b.year m a.day) month
         ∙ ap (λ d. made_of b.year b.month d) day
+
+-- and the date of a number is the day with this number
+pub day_value-date_at : (n : ℕ) → n ≤ 2556 → day_value (date_at n).year (date_at n).month (date_at n).day ≡ Some n
+day_value-date_at n within =
+    let is = dated-at n within in
+    let d = date_at n in
+    rw (
+      le-leb 1992 d.year is.year_low,
+      le-leb d.year 1998 is.year_high,
+      le-leb 1 d.month is.month_low,
+      le-leb d.month 12 is.month_high,
+      le-leb 1 d.day is.day_low,
+      le-leb d.day (days_in_month (pos d.year) d.month) is.day_high,
+    )
+    (ap Some (omega (arith, is.count)))
+
+-- the parts of such a date have four and two digits
+pub date_at-within : (n : ℕ) → n ≤ 2556
+    → ((date_at n).year < 10_000) × ((date_at n).month < 100) × ((date_at n).day < 100)
+date_at-within n within =
+    let is = dated-at n within in
+    let d = date_at n in (
+      omega (arith, is.year_high),
+      omega (arith, is.month_high),
+      omega (arith, is.day_high, days_in_month_bounds (pos d.year) d.month),
+    )

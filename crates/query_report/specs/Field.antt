@@ -30,3 +30,8 @@ flag_letter R = 82
 abbrev pub status_letter : LineStatus → ℕ
 status_letter F = 70
 status_letter O = 79
+
+-- the texts of items that are numbered from n on, one behind another
+unfoldable pub each_text : {X : Type 0} → (ℕ → X → List ℕ) → ℕ → List X → List ℕ
+each_text text n [] = []
+each_text text n (x ∷ xs) = text n x ++ each_text text (n + 1) xs

@@ -6,14 +6,23 @@ use Rattle.query_report.specs.declared.reply.DropLine.TheVariants as of
 use Rattle.query_report.specs.declared.reply.Reply.{Reply}
 use Rattle.query_report.specs.declared.reply.Reply.TheVariants.{Placed, Duplicate, Missing, TableFull, LogFull, DropLines, Found, Absent, Rows, Count, Sum, Q6, Merge}
 use Rattle.query_report.specs.Decimal.{decimal4_text}
-use Rattle.query_report.specs.Field.{field, two_fields}
+use Rattle.query_report.specs.Field.{field, two_fields, each_text}
 use Rattle.query_report.specs.TupleText.{tuple_text}
 
--- p and the place of the delta; m or f and the length of the front at which the line is missing or the log is full
+-- p where a line was deleted, m where it is missing, f where the log is full
+abbrev pub drop_letter : DropLine → ℕ
+drop_letter (of.Placed place) = 112
+drop_letter (of.Missing front) = 109
+drop_letter (of.LogFull front) = 102
+
+-- the place of the delta, or the length of the front at which the line is missing or the log is full
+abbrev pub drop_number : DropLine → ℕ
+drop_number (of.Placed place) = place
+drop_number (of.Missing front) = front
+drop_number (of.LogFull front) = front
+
 abbrev pub drop_text : DropLine → List ℕ
-drop_text (of.Placed place) = field (codes "p") place
-drop_text (of.Missing front) = field (codes "m") front
-drop_text (of.LogFull front) = field (codes "f") front
+drop_text line = field (drop_letter line ∷ []) (drop_number line)
 
 abbrev pub is_deleted : DropLine → Bool
 is_deleted (of.Placed place) = true
@@ -25,23 +34,21 @@ abbrev pub numbered_text : ℕ → DropLine → List ℕ
 numbered_text digit line = (32 ∷ digit ∷ 61 ∷ []) ++ drop_text line
 
 -- lines whose digits count on from this one
-unfoldable pub drops_text : ℕ → List DropLine → List ℕ
-drops_text digit [] = []
-drops_text digit (line ∷ lines) = numbered_text digit line ++ drops_text (digit + 1) lines
+abbrev pub drops_text : ℕ → List DropLine → List ℕ
+drops_text digit lines = each_text numbered_text digit lines
 
 -- how many lines were deleted, and each line
 abbrev pub drop_reply : List DropLine → List ℕ
 drop_reply lines = field (codes "drop deleted=") (count_by is_deleted lines) ++ drops_text 49 lines
 
--- numbers, each behind a comma
-unfoldable pub more_text : List ℕ → List ℕ
-more_text [] = []
-more_text (row ∷ rows) = field (codes ",") row ++ more_text rows
+-- the numbers of a list from a place on, each behind a comma
+abbrev pub more_text : ℕ → List ℕ → List ℕ
+more_text place rows = each_text (λ place. field (codes ",")) place rows
 
 -- numbers with commas between them, and a hyphen for none
 unfoldable pub list_text : List ℕ → List ℕ
 list_text [] = codes " list=-"
-list_text (row ∷ rows) = field (codes " list=") row ++ more_text rows
+list_text (row ∷ rows) = field (codes " list=") row ++ more_text 1 rows
 
 -- the front's length, how many rows match, these rows, and how many deltas were looked at
 abbrev pub rows_reply : ℕ → List ℕ → ℕ → List ℕ

@@ -55,7 +55,8 @@ fn put_delta(text: &mut Vec<u8>, place: u32, delta: &Delta) -> Result<(), Memory
 // The place, the author, the key and the row.
 #[tactic(auto, unfolding(crate::specs::Journal::place_text))]
 fn put_place(text: &mut Vec<u8>, place: u32, delta: &Delta) -> Result<(), Memory>
-    ensures { OnOk result (text.new.items ≡ text.old.items ++ place_text place delta.now) }
+    ensures { OnOk result (text.new.items
+        ≡ text.old.items ++ place_text place delta.now.author delta.now.key delta.now.row) }
 {
     put_number(text, place)?;
     put_field(text, b" w", u32::from(delta.author))?;

@@ -1,17 +1,18 @@
-//! The texts of the program: replies and the journal of a run, the line of an answer, and what standard error is told
-//! of a call that wrote none. Each is fixed byte for byte, as docs/FORMATS.md gives it. `ReplyTable` keeps the replies
-//! of all workers.
+//! The texts of the program: replies and the journal of a run, which together are its report and are read again from
+//! it, the line of an answer, and what standard error is told. Each is fixed byte for byte, as docs/FORMATS.md gives it.
+//! `ReplyTable` keeps the replies of all workers.
 //!
 //! # Proved
 //!
 //! - `reply_text`: the line of a worker's reply to a command (`reply_line`), one form for each kind of reply.
 //! - `journal_text`: the number of the deltas, and the line of each in order (`journal_bytes`). A date is the day so
 //!   many days after 1 January 1992 on the calendar (`date_at`).
+//! - `report_text`: all lines of replies, worker by worker, and then the journal (`report_bytes`). `report_of`: the
+//!   report that has these bytes (`some`), which no other has (`one`), or none exactly where no report has (`none`).
 //! - `ReplyTable`: contracts see it as a list of replies for each worker. `add`: the reply stands at the end of the
 //!   worker's list, and lists that were missing before it are empty (`ok`), or nothing changed (`err`). `get`, `len`,
 //!   `workers`: what that list has.
-//! - `decimal4`: the whole units without leading zeros, a point, and four digits (`decimal4_text`).
-//! - `answer_line`: the line of a count and a sum (`answer_text`).
+//! - `decimal4`, `answer_line`: a sum with four digits behind its point; the line of a count and a sum (`answer_text`).
 //! - `Stop::tell`: a sink takes the one line of why a call stopped (`stop_text`), in order and as far as it goes, and
 //!   all of it unless it fails (clause `text`). It takes no memory, so it can say that memory ran out.
 //!
@@ -21,17 +22,16 @@
 //!
 //! # Not said
 //!
-//! - That memory is found for a text or a reply.
+//! - That memory is found for a text, a reply or a report.
 //! - What a sink does with what it took.
 //! - That a reply is true of anything: a table takes any replies.
 //!
 //! # Example
 //!
 //! ```
-//! let mut replies = ReplyTable::new(alloc);
 //! replies.add(alloc, 0, Reply::Missing { front: log_len })?;
-//! let line = reply_text(alloc, 0, replies.len(0), &Reply::Missing { front: log_len })?;
-//! let journal = journal_text(alloc, &deltas)?;
+//! let text = report_text(alloc, &replies, &deltas)?;
+//! let same = report_of(alloc, &text)?;
 //! ```
 #![tactic(auto)]
 
@@ -39,9 +39,11 @@ mod answer;
 mod decimal;
 mod journal;
 mod piece;
+mod reader;
 mod refusal;
 mod reply;
 mod reply_table;
+mod report;
 mod stop;
 
 pub use answer::answer_line;
@@ -50,5 +52,6 @@ pub use journal::journal_text;
 pub use refusal::{Detail, Refusal};
 pub use reply::{DropLine, Reply, reply_text};
 pub use reply_table::ReplyTable;
+pub use report::{Report, report_of, report_text};
 pub use std::alloc::AllocError as Memory;
 pub use stop::Stop;

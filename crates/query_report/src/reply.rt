@@ -251,7 +251,7 @@ fn put_list(text: &mut Vec<u8>, list: &[u32]) -> Result<(), Memory>
 
 // Each number behind a comma.
 fn put_rest(text: &mut Vec<u8>, list: &[u32]) -> Result<(), Memory>
-    ensures { OnOk result (text.new.items ≡ text.old.items ++ more_text list.now) }
+    ensures { OnOk result (text.new.items ≡ text.old.items ++ more_text 1 list.now) }
 {
     for row in list {
         put_field(text, b",", *row)?;
@@ -266,7 +266,7 @@ fn put_drop(text: &mut Vec<u8>, lines: &[DropLine; 7]) -> Result<(), Memory>
     put_drop_lines(text, lines)
 }
 
-fn deleted_count(lines: &[DropLine]) -> u32
+pub(crate) fn deleted_count(lines: &[DropLine]) -> u32
     requires { length lines.now ≤ 7 }
     ensures { result ≡ count_by is_deleted lines.now }
 {

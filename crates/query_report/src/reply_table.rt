@@ -1,15 +1,17 @@
 //! The replies of all workers.
-ghost use Rattle.std.specs.Prelude.{◌≡◌, ◌<◌, ◌≤◌, [], ◌∷◌, ◌++◌, length, slice_get, replicate, OnOk, OnErr, IfOk};
+ghost use Rattle.std.specs.Prelude.{◌≡◌, ◌<◌, ◌≤◌, ◌^◌, [], ◌∷◌, ◌++◌, length, slice_get, replicate, OnOk, OnErr, IfOk, IfSome, IfNone};
 ghost use Rattle.std.specs.Option.{option_copied};
-ghost use Rattle.query_report.specs.ReplyTable.{added, replies_of};
+ghost use Rattle.query_report.specs.Report.{reply_lines, worker_lines};
+ghost use Rattle.query_report.specs.ReplyTable.{EndsInReply, added, replies_of};
 
+use crate::reply::put_reply_line;
 use crate::{Memory, Reply};
 use std::alloc::Global;
 use std::marker::Model;
 
 // The replies of one worker, in the order of its commands.
 #[derive(Drop)]
-struct ReplyList {
+pub(crate) struct ReplyList {
     replies: Vec<Reply>,
 }
 
@@ -51,6 +53,20 @@ impl ReplyTable {
         ReplyTable {
             lists: Vec::new(alloc),
         }
+    }
+
+    /// The table of these lists, or none where the last of them is empty.
+    pub(crate) fn of_lists(lists: Vec<ReplyList>) -> Option<ReplyTable>
+        requires { length lists.items ≤ 256 }
+        ensures some { IfSome result (λ table. table ≡ lists.items) }
+        ensures none { IfNone result (EndsInReply lists.items → ⊥) }
+    {
+        if let Some(last) = lists.last() {
+            if last.len() == 0 {
+                return None;
+            }
+        }
+        Some(ReplyTable { lists })
     }
 
     /// The number of lists.
@@ -95,8 +111,43 @@ impl ReplyTable {
     }
 }
 
+impl ReplyTable {
+    /// The lines of all replies at the end of a text, worker by worker.
+    pub(crate) fn put_lines(&self, text: &mut Vec<u8>) -> Result<(), Memory>
+        ensures { OnOk result (text.new.items ≡ text.old.items ++ reply_lines 0 self.now) }
+    {
+        put_lists(text, self.lists.as_slice())
+    }
+}
+
+fn put_lists(text: &mut Vec<u8>, lists: &[ReplyList]) -> Result<(), Memory>
+    requires { length lists.now ≤ 256 }
+    ensures { OnOk result (text.new.items ≡ text.old.items ++ reply_lines 0 lists.now) }
+{
+    for (worker, list) in lists.iter().enumerate() {
+        list.put_lines(text, worker as u8)?;
+    }
+    Ok(())
+}
+
+fn put_replies(text: &mut Vec<u8>, worker: u8, replies: &[Reply]) -> Result<(), Memory>
+    requires { length replies.now < 2 ^ 32 }
+    ensures { OnOk result (text.new.items ≡ text.old.items ++ worker_lines worker 1 replies.now) }
+{
+    for (at, reply) in replies.iter().enumerate() {
+        put_reply_line(text, worker, at as u32 + 1, reply)?;
+    }
+    Ok(())
+}
+
 impl ReplyList {
-    fn new(alloc: Global) -> ReplyList
+    fn put_lines(&self, text: &mut Vec<u8>, worker: u8) -> Result<(), Memory>
+        ensures { OnOk result (text.new.items ≡ text.old.items ++ worker_lines worker 1 self.now) }
+    {
+        put_replies(text, worker, self.replies.as_slice())
+    }
+
+    pub(crate) fn new(alloc: Global) -> ReplyList
         ensures { result ≡ [] }
     {
         ReplyList {
@@ -116,7 +167,7 @@ impl ReplyList {
         self.replies.get(n as usize)
     }
 
-    fn push(&mut self, reply: Reply) -> Result<(), Memory>
+    pub(crate) fn push(&mut self, reply: Reply) -> Result<(), Memory>
         requires { length self.old < 4_294_967_295 }
         ensures ok { OnOk result (self.new ≡ self.old ++ reply ∷ []) }
         ensures err { OnErr result (self.new ≡ self.old) }

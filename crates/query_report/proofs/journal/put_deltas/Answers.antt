@@ -1,11 +1,12 @@
 use Rattle.std.proofs.Common.{◌≡◌, ◌+◌, ◌++◌, drop, sym, ap, ◌∙◌, arith}
 use Rattle.std.proofs.lemmas.List.{at_drop_more, at_drop_all}
+use Rattle.query_report.specs.Field.{each_text}
 use Rattle.query_report.specs.Journal.{delta_line, delta_lines}
 use Rattle.query_report.proofs.Writing.{writes_more, writes_all}
 use Rattle.query_report.proofs.journal.put_deltas.Goals as goal
 
 pub loop-place-preserved : goal.loop-place-preserved
-unfolding delta_lines
+unfolding each_text
 loop-place-preserved c =
     let deltas = c.args.deltas.now in
     let place = c.loop-place.place in
@@ -18,7 +19,7 @@ loop-place-preserved c =
     c.loop-place.invariant
 
 pub returns : goal.returns
-unfolding delta_lines
+unfolding each_text
 returns c =
     let place = c.loop-place.place in
     let done = at_drop_all (delta_lines place) c.args.deltas.now place (omega arith) in

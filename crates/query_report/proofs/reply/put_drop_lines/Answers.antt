@@ -1,12 +1,13 @@
 use Rattle.std.proofs.Common.{◌≡◌, ◌+◌, ◌++◌, drop, get_or, ap, ◌∙◌, arith}
 use Rattle.std.proofs.lemmas.List.{at_drop_more, at_drop_all}
 use Rattle.query_report.specs.declared.reply.DropLine.{DropLine}
+use Rattle.query_report.specs.Field.{each_text}
 use Rattle.query_report.specs.Reply.{numbered_text, drops_text}
 use Rattle.query_report.proofs.Writing.{writes_more, writes_all}
 use Rattle.query_report.proofs.reply.put_drop_lines.Goals as goal
 
 pub loop-at-preserved : goal.loop-at-preserved
-unfolding drops_text
+unfolding each_text
 loop-at-preserved c =
     let lines = c.args.lines.now in
     let at = c.loop-at.at in
@@ -19,7 +20,7 @@ loop-at-preserved c =
     writes_more c.loop-at.text.items _ _ rest _ _ c.in_ok-put_drop_line.ensures (cut _) c.loop-at.invariant
 
 pub returns : goal.returns
-unfolding drops_text
+unfolding each_text
 returns c =
     let at = c.loop-at.at in
     let done = at_drop_all (drops_text (49 + at)) c.args.lines.now at (omega arith) in

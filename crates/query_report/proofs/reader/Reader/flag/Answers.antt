@@ -1,0 +1,1 @@
+use Rattle.query_report.proofs.reader.Reader.flag.Goals as goal

@@ -1,0 +1,1 @@
+use Rattle.query_report.proofs.reader.Reader.status.Goals as goal
