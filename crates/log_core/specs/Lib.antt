@@ -1,0 +1,5 @@
+pub mod Chain
+pub mod Core
+pub mod EntryWords
+pub mod Steps
+pub mod Terms

@@ -1,0 +1,9 @@
+//! The core of a log that several parties share: its words, and what one atomic step may do to them.
+#![tactic(auto)]
+
+mod party;
+mod step;
+
+pub use cubit_base::Memory;
+pub use party::Party;
+pub use step::{Seen, Step, Unlawful};
