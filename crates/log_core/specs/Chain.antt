@@ -26,7 +26,7 @@ link words node = slice_index words (link_place node)
 -- the payload of the node is that of the entry
 pub record HasEntry (words : List ℕ) (node : ℕ) (entry : Entry) : Type 0 where
   pub fits : FitsWords entry
-  pub words : (w : ℕ) → w < 4 → payload words node w ≡ slice_index (entry_words entry) w
+  pub payload : (w : ℕ) → w < 4 → payload words node w ≡ slice_index (entry_words entry) w
 
 -- the nodes from the head on, in the order of their links; the deltas of those behind the head; and in which place the
 -- tail stands

@@ -1,6 +1,6 @@
 -- The log's core, and when it is sound.
-use Rattle.std.specs.Prelude.{◌≡◌, ℕ, ◌+◌, ◌*◌, ◌<◌, ◌≤◌, List, [], ◌∷◌, length, map, slice_index_or, slice_set}
-use Rattle.std.specs.List.{count_by, replicate}
+use Rattle.std.specs.Prelude.{◌≡◌, ℕ, ◌+◌, ◌*◌, ◌<◌, ◌≤◌, List, [], ◌∷◌, length, replicate, slice_index_or, slice_set}
+use Rattle.std.specs.List.{count_by}
 use Rattle.cubit_base.specs.History.{IsHistory}
 use Rattle.cubit_base.specs.declared.delta.Delta.{Delta}
 use Rattle.log_core.specs.declared.party.Party.{Party}

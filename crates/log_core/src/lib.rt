@@ -1,6 +1,7 @@
 //! The core of a log that several parties share: its words, and what one atomic step may do to them.
 #![tactic(auto)]
 
+pub mod laws;
 mod party;
 mod step;
 

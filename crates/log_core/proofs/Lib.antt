@@ -1,0 +1,6 @@
+pub mod Ends
+pub mod Keeping
+pub mod Links
+pub mod Looks
+pub mod Nodes
+pub mod Stores
