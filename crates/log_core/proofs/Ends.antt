@@ -1,5 +1,5 @@
 -- The ends of nodes. Nothing else in these proofs knows that an entry has one delta.
-use Rattle.std.proofs.Common.{◌≡◌, ℕ, ◌+◌, ◌<◌, ◌≤◌, Bool, true, cond, List, [], ◌∷◌, ◌++◌, length, take, refl, ap, arith, length-append}
+use Rattle.std.proofs.Common.{◌≡◌, ℕ, ◌+◌, ◌<◌, ◌≤◌, Bool, true, cond, List, [], ◌∷◌, ◌++◌, length, take, min, refl, ap, arith, length-append}
 use Rattle.std.specs.List.{count_by}
 use Rattle.std.proofs.lemmas.List.{length-take, length-take-le, take-append-le, get_or_append_left, get_or_at}
 use Rattle.std.proofs.lemmas.List.Sums.{count_by_more_yes, sum_by-take-le}
@@ -23,6 +23,10 @@ unfolding end_at
 end_at-last h k le = omega (arith, length-take k h)
 
 -- each entry has one delta
+pub end_at_least : (h : List Delta) (k : ℕ) → end_at h k ≡ min k (length h)
+unfolding end_at
+end_at_least h k = omega (arith, length-take k h)
+
 pub end_at-place : (h : List Delta) (k : ℕ) → k ≤ length h → end_at h k ≡ k
 unfolding end_at
 end_at-place h k le = length-take-le k h le

@@ -14,7 +14,7 @@ use Rattle.log_core.specs.declared.party.Party.{Party}
 use Rattle.log_core.specs.Terms.{CoreTerms, share, first_node, node_count}
 use Rattle.log_core.specs.Chain.{Chain, tail, payload_place, link_place, payload, link, node_at, HasEntry, IsNodeAt, IsInChain, delta_at, end_at, entry_at, is_by, IsLinked, IsFilled}
 use Rattle.log_core.specs.Core.{CoreValue, newcomer, party, IsSoundParty, IsSound}
-use Rattle.log_core.specs.Steps.{entry_behind, MayLink, has_linked, linked}
+use Rattle.log_core.specs.Steps.{entry_behind, MayLink, Proposes, links, linked}
 use Rattle.log_core.proofs.Ends.{end_at-within, end_at-greater, end_at-last, end_at-kept, end_at-grows, end_at-appended, length-appended, delta_at-kept, delta_at-appended}
 use Rattle.log_core.proofs.Nodes.{empty-last, node-inside, node-small}
 use Rattle.log_core.proofs.Looks.{keeps-shares}
@@ -44,7 +44,7 @@ module _ (ws : List ℕ) (n to : ℕ) where
   tail-link = get_or-set_other ws (link_place n) 0 to 0 (λ e. absurd (omega arith))
 
 module _ (c : CoreValue) (s : IsSound c) (p n to k : ℕ) (d : Delta) (inp : p < length c.parties)
-    (m : MayLink c p n to k d) (free : link c.words n ≡ 0) where
+    (m : MayLink c p n to k) (o : Proposes c p to k d) (free : link c.words n ≡ 0) where
   abbrev t : CoreTerms
   t = c.terms
 
@@ -196,7 +196,7 @@ module _ (c : CoreValue) (s : IsSound c) (p n to k : ℕ) (d : Delta) (inp : p <
       (λ below. has-entry (node_at ch (i + 1)) (node_at ch' (i + 1)) (entry_at t h i) (entry_at t h' i)
       (old-node (i + 1) (omega (arith, node-count))) (old-entry i below) (s.filled.entries i below))
       (has-entry to (node_at ch' (length h + 1)) (entry_behind c k d) (entry_at t h' (length h)) new-node new-entry
-      m.entry)
+      o.entry)
 
   each-delta : (P : ℕ → Delta → Type 0) → ((i : ℕ) → i < length h → P i (delta_at h i)) → P (length h) d →
       (i : ℕ) → i < length h' → P i (delta_at h' i)
@@ -217,14 +217,14 @@ module _ (c : CoreValue) (s : IsSound c) (p n to k : ℕ) (d : Delta) (inp : p <
       ((s.parties p inp).used
       ∙ ap (count_by (is_by p))
       (sym (take-append-le (length h) h (d ∷ []) (omega arith) ∙ take_all (length h) h (omega arith))))
-      ∙ ap (λ z. first_node t z + count_by (is_by z) (take (length h) h')) (sym m.author))
+      ∙ ap (λ z. first_node t z + count_by (is_by z) (take (length h) h')) (sym o.author))
 
   filled' : IsFilled t ws' ch'
   filled' = record {
     head = λ w small. payload-link c.words n to 0 w small ∙ s.filled.head w small;
     entries = entries';
     authors = each-delta (λ i x. x.author < length t.shares) s.filled.authors
-        (let a = m.author in omega (arith, own));
+        (let a = o.author in omega (arith, own));
     nodes = nodes';
   }
 
@@ -238,12 +238,12 @@ module _ (c : CoreValue) (s : IsSound c) (p n to k : ℕ) (d : Delta) (inp : p <
     used =
         counted ∙ ap (λ z. z + cond (eqb p q) 1 0) f.used
         ∙ sym (sum_by_push (λ (e : Delta). cond (is_by q e) 1 0) h d
-        ∙ ap (λ z. count_by (is_by q) h + cond (eqb z q) 1 0) m.author);
+        ∙ ap (λ z. count_by (is_by q) h + cond (eqb z q) 1 0) o.author);
     share = spare;
     own = each-delta (λ i e. e.author ≡ q → end_at h' (i + 1) ≤ seen)
         (λ i lt is. let a = f.own i lt is in let b = end_at-kept h d (i + 1) (omega arith) in omega arith)
         (λ is.
-        let a = by (sym m.author ∙ is) in
+        let a = by (sym o.author ∙ is) in
         let b = end_at-within h' (length h + 1) in
         omega (arith, length-appended h d));
     low = let a = f.low in omega (arith, length-appended h d);
@@ -258,7 +258,7 @@ module _ (c : CoreValue) (s : IsSound c) (p n to k : ℕ) (d : Delta) (inp : p <
   end-all = ap (end_at h) last ∙ end_at-last h (length h) (omega arith)
 
   abbrev linker : Party
-  linker = has_linked c k (party c p)
+  linker = links (party c p) (end_at h k)
 
   sound-linker : IsSoundParty t ch' p linker
   sound-linker =
@@ -295,7 +295,7 @@ module _ (c : CoreValue) (s : IsSound c) (p n to k : ℕ) (d : Delta) (inp : p <
     };
     lawful = history-appended t.limits.row_limit t.base h d s.lawful
         (subst (λ (x : List Delta). IsLawful t.limits.row_limit (after t.base x) d)
-        (take_all k h (omega (arith, last))) m.lawful);
+        (take_all k h (omega (arith, last))) o.lawful);
     within = let a = m.room in omega (arith, length-appended h d, end-all);
     party_count = length-set c.parties p linker ∙ s.party_count;
     parties = sound-each;

@@ -10,7 +10,7 @@ use Rattle.log_core.specs.Terms.{CoreTerms, share, first_node, node_count}
 use Rattle.log_core.specs.Chain.{Chain, link, node_at, IsNodeAt, IsInChain, delta_at, end_at, is_by, IsLinked, IsFilled}
 use Rattle.log_core.proofs.Ends.{end_at-greater, count-before}
 
-first_node-next : (t : CoreTerms) (p : ℕ) → p < length t.shares → first_node t (p + 1) ≡ first_node t p + share t p
+pub first_node-next : (t : CoreTerms) (p : ℕ) → p < length t.shares → first_node t (p + 1) ≡ first_node t p + share t p
 first_node-next t p lt = omega (arith, sum_by_more (λ (x : ℕ). x) t.shares p 0 lt)
 
 -- all nodes of a party lie before those of a later one

@@ -36,15 +36,18 @@ entry_behind core place d = record {
   delta = d;
 }
 
--- the party may try to link its next node behind the node in this place: it has seen that one, and the tail there; the
--- log is not full; and its next node has the entry of a delta that is lawful there
-pub record MayLink (core : CoreValue) (p node to place : ℕ) (d : Delta) : Type 0 where
+-- the party may try to link its next node behind the node in this place: it has seen that one, and the tail there, and
+-- the log is not full
+pub record MayLink (core : CoreValue) (p node to place : ℕ) : Type 0 where
   pub read : MayRead core p node place
   pub reached : end_at core.chain.history place ≤ (party core p).reached
   pub room : end_at core.chain.history place < core.terms.limits.log_limit
   pub next : IsNextNode core p to
+
+-- the node has the entry of a delta of the party's own that is lawful behind this place
+pub record Proposes (core : CoreValue) (p node place : ℕ) (d : Delta) : Type 0 where
   pub author : d.author ≡ p
-  pub entry : HasEntry core.words to (entry_behind core place d)
+  pub entry : HasEntry core.words node (entry_behind core place d)
   pub lawful : IsLawful core.terms.limits.row_limit (after core.terms.base (take place core.chain.history)) d
 
 -- the party may try to move the tail from the node in this place to the one that it links to: it has seen the tail at
@@ -67,15 +70,18 @@ reaches x end = record x { reached = max x.reached end }
 abbrev pub tail_end : CoreValue → ℕ
 tail_end core = end_at core.chain.history core.chain.tail_place
 
--- the party after it loaded the tail
-abbrev pub tail_loaded : CoreValue → Party → Party
-tail_loaded core x = record {
-  seen = max x.seen (tail_end core);
-  reached = max x.reached (tail_end core);
-  low = delta_count core.chain.history;
-  last = tail core.words;
+-- the party after it loaded the tail, of which it keeps how many deltas there were
+abbrev pub loads_tail : Party → ℕ → ℕ → ℕ → Party
+loads_tail x end low last = record {
+  seen = max x.seen end;
+  reached = max x.reached end;
+  low = low;
+  last = last;
   used = x.used;
 }
+
+abbrev pub tail_loaded : CoreValue → Party → Party
+tail_loaded core x = loads_tail x (tail_end core) (delta_count core.chain.history) (tail core.words)
 
 -- the core after the party saw the node behind this place; at the last node there is none, and it sees no more
 abbrev pub sees_next : CoreValue → ℕ → ℕ → CoreValue
@@ -85,9 +91,9 @@ sees_next core p place = with_party core p (sees (party core p) (end_at core.cha
 abbrev pub reaches_next : CoreValue → ℕ → ℕ → CoreValue
 reaches_next core p place = with_party core p (reaches (party core p) (end_at core.chain.history (place + 1)))
 
--- the party after it linked its next node behind this place
-abbrev pub has_linked : CoreValue → ℕ → Party → Party
-has_linked core place x = record (sees x (end_at core.chain.history place + 1)) { used = x.used + 1 }
+-- the party after it linked its next node behind one with this end
+abbrev pub links : Party → ℕ → Party
+links x end = record (sees x (end + 1)) { used = x.used + 1 }
 
 -- the core with the party's next node linked behind the last one, in this place
 abbrev pub linked : CoreValue → ℕ → ℕ → ℕ → ℕ → Delta → CoreValue
@@ -99,7 +105,7 @@ linked core p node to place d = record {
     history = core.chain.history ++ d ∷ [];
     tail_place = core.chain.tail_place;
   };
-  parties = slice_set core.parties p (has_linked core place (party core p));
+  parties = slice_set core.parties p (links (party core p) (end_at core.chain.history place));
   noted = core.noted;
 }
 
@@ -126,7 +132,7 @@ Gives core p (LoadPayload node word) seen next =
     (place : ℕ) × MayRead core p node place × (word < 4) × (seen ≡ Value (payload core.words node word))
     × (next ≡ core)
 Gives core p (SwapLink node to) seen next =
-    (place : ℕ) × (d : Delta) × MayLink core p node to place d
+    (place : ℕ) × (d : Delta) × MayLink core p node to place × Proposes core p to place d
     × ((link core.words node ≡ 0) × (seen ≡ Swapped true) × (next ≡ linked core p node to place d)
     ⊎ (link core.words node ≢ 0) × (seen ≡ Swapped false) × (next ≡ sees_next core p place))
 Gives core p (SwapTail from to) seen next =

@@ -1,0 +1,1 @@
+//! The exchanges of a link and of the tail.
