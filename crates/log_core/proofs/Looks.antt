@@ -7,7 +7,7 @@ use Rattle.log_core.specs.declared.party.Party.{Party}
 use Rattle.log_core.specs.Terms.{CoreTerms, share}
 use Rattle.log_core.specs.Chain.{Chain, tail, IsNodeAt, end_at, is_by}
 use Rattle.log_core.specs.Core.{CoreValue, newcomer, party, with_party, IsSoundParty, IsSound}
-use Rattle.log_core.specs.Steps.{sees, reaches, tail_loaded, tail_end, sees_next, reaches_next}
+use Rattle.log_core.specs.Steps.{sees, reaches, loads_tail, tail_loaded, tail_end, sees_next, reaches_next}
 use Rattle.log_core.proofs.Ends.{end_at-within, end_at-last}
 use Rattle.log_core.proofs.Nodes.{KeepsShares}
 
@@ -118,3 +118,18 @@ keeps-note c p s inp = record {
   parties = s.parties;
   noted = let x = s.parties p inp in let a = x.seen in let b = s.noted in omega arith;
 }
+
+-- the same for a state that is made elsewhere
+pub sound-seen : (c : CoreValue) (p end : ℕ) (x of : Party) → IsSound c → p < length c.parties → of ≡ party c p →
+    x ≡ sees of end → end ≤ length c.chain.history → IsSound (with_party c p x)
+sound-seen c p end x of s inp is seen le =
+    subst (λ (y : Party). IsSound (with_party c p y)) (sym (seen ∙ ap (λ (y : Party). sees y end) is))
+    (keeps-sees c p end s inp le)
+
+pub sound-loaded : (c : CoreValue) (p end low last : ℕ) (x of : Party) → IsSound c → p < length c.parties →
+    of ≡ party c p → x ≡ loads_tail of end low last → end ≡ tail_end c → low ≡ length c.chain.history →
+    last ≡ tail c.words → IsSound (with_party c p x)
+sound-loaded c p end low last x of s inp is loads same_end same_low same_last =
+    subst (λ (y : Party). IsSound (with_party c p y))
+    (sym (loads ∙ (λ i. loads_tail (is i) (same_end i) (same_low i) (same_last i))))
+    (keeps-load_tail c p s inp)

@@ -73,7 +73,7 @@ module _ (c : CoreValue) (s : IsSound c) (p node word value : ℕ) (inp : p < le
 
 module _ (c : CoreValue) (s : IsSound c) (p from to place : ℕ) (inp : p < length c.parties)
     (may : MayMoveTail c p from to place) where
-  inner : place < length c.chain.history
+  pub inner : place < length c.chain.history
   inner =
       full-inner c.terms c.words c.chain s.linked s.filled from place may.at (λ e. may.set (sym may.link ∙ e))
 
