@@ -1,5 +1,5 @@
 //! Entries in four words.
-ghost use Rattle.std.specs.Prelude.{◌≡◌, ◌≢◌, List, Option, IfSome, IfNone};
+ghost use Rattle.std.specs.Prelude.{◌≡◌, ◌≢◌, ◌||◌, is_some, Option, IfSome, IfNone};
 ghost use Rattle.cubit_base.specs.Tuple.{TupleValue, IsTuple};
 ghost use Rattle.cubit_base.specs.Word.{word_of};
 ghost use Rattle.cubit_base.specs.declared.entry.Entry.{Entry as EntryValue};
@@ -8,6 +8,7 @@ ghost use Rattle.log_core.specs.EntryWords.{FitsWords, entry_words};
 use cubit_base::{Delta, Entry, Key, Tuple};
 
 /// The four words of an entry.
+#[tactic(auto, unfolding(crate::specs::EntryWords::entry_words))]
 pub(crate) fn to_words(entry: &Entry) -> [u64; 4]
     requires { FitsWords entry.now }
     ensures { result ≡ entry_words entry.now }
@@ -22,11 +23,15 @@ pub(crate) fn to_words(entry: &Entry) -> [u64; 4]
 }
 
 /// The entry that has these words, or none where no entry has them.
+#[tactic(auto, unfolding(crate::specs::EntryWords::entry_words))]
 pub(crate) fn from_words(words: &[u64; 4]) -> Option<Entry>
     ensures some { IfSome result (λ e. FitsWords e × (words.now ≡ entry_words e)) }
     ensures none { IfNone result ((e : EntryValue) → FitsWords e → words.now ≢ entry_words e) }
 {
     let [place, counts, before, after] = *words;
+    if !is_told(before, after) {
+        return None;
+    }
     let before = word_tuple(before)?;
     let after = word_tuple(after)?;
     let order = (place & 0xffff_ffff) as u32;
@@ -38,7 +43,7 @@ pub(crate) fn from_words(words: &[u64; 4]) -> Option<Entry>
     if counts >> 57 != 0 || order == 0 || line == 0 || seq == 0 {
         return None;
     }
-    if seq > 4_194_304 || rows > 16_777_216 || row >= rows || before.is_none() && after.is_none() {
+    if seq > 4_194_304 || rows > 16_777_216 || row >= rows {
         return None;
     }
     let key = Key { order, line };
@@ -50,6 +55,14 @@ pub(crate) fn from_words(words: &[u64; 4]) -> Option<Entry>
         after,
     };
     Some(Entry { seq, rows, delta })
+}
+
+// Whether one of two words is that of a tuple.
+fn is_told(before: u64, after: u64) -> bool
+    ensures { (b a : Option TupleValue) → before ≡ word_of b → after ≡ word_of a →
+        result ≡ (is_some b || is_some a) }
+{
+    before != 0 || after != 0
 }
 
 fn tuple_word(tuple: &Option<Tuple>) -> u64
