@@ -1,7 +1,9 @@
 pub mod Bounds
 pub mod Ends
+pub mod Entries
 pub mod Keeping
 pub mod Links
 pub mod Looks
 pub mod Nodes
 pub mod Stores
+pub mod Tables

@@ -1,9 +1,18 @@
 //! What follows for steps of a core. These functions do nothing: where one is called, its clauses are known.
-ghost use Rattle.std.specs.Prelude.{ℕ};
+ghost use Rattle.std.specs.Prelude.{◌≡◌, ℕ};
+ghost use Rattle.cubit_base.specs.declared.entry.Entry.{Entry};
+ghost use Rattle.log_core.specs.EntryWords.{FitsWords, entry_words};
 ghost use Rattle.log_core.specs.Core.{CoreValue, IsSound};
 ghost use Rattle.log_core.specs.Steps.{TakesStep};
 ghost use Rattle.log_core.specs.declared.step.Step.{Step};
 ghost use Rattle.log_core.specs.declared.step.Seen.{Seen};
+
+/// The words of an entry tell it.
+pub fn entries()
+    ensures words { (a b : Entry) → FitsWords a → FitsWords b → entry_words a ≡ entry_words b → a ≡ b }
+{
+    cubit_base::laws::words();
+}
 
 /// Steps of whichever party.
 pub fn steps()

@@ -9,6 +9,7 @@ use crate::{Party, Seen, Step, Unlawful};
 use cubit_base::{Delta, Limits, Table};
 use std::marker::Model;
 
+mod lawful;
 mod links;
 mod reads;
 mod writes;
