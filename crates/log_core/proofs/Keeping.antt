@@ -17,9 +17,9 @@ keeps-gives c z p LoadTail seen s inp g = subst IsSound (sym g.1) (keeps-load_ta
 keeps-gives c z p (LoadLink node) seen s inp g = subst IsSound (sym g.3) (keeps-sees_next c p g.0 s inp)
 keeps-gives c z p (LoadPayload node word) seen s inp g = subst IsSound (sym g.4) s
 keeps-gives c z p (SwapLink node to) seen s inp g = ⊎_elim
-    (λ u. subst IsSound (sym u.2) (keeps-linked c s p node to g.0 g.1 inp g.2 g.3 u.0))
+    (λ u. subst IsSound (sym u.2) (keeps-linked c s p node to g.0 g.1 inp g.2 g.3 g.4 u.0))
     (λ u. subst IsSound (sym u.2) (keeps-sees_next c p g.0 s inp))
-    g.4
+    g.5
 keeps-gives c z p (SwapTail from to) seen s inp g = ⊎_elim
     (λ u. subst IsSound (sym u.2) (keeps-tail_moved c s p from to g.0 inp g.1 u.0))
     (λ u. subst IsSound (sym u.2) (keeps-tail_missed c s p from to g.0 inp g.1 u.0))

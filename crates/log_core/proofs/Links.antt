@@ -14,7 +14,7 @@ use Rattle.log_core.specs.declared.party.Party.{Party}
 use Rattle.log_core.specs.Terms.{CoreTerms, share, first_node, node_count}
 use Rattle.log_core.specs.Chain.{Chain, tail, payload_place, link_place, payload, link, node_at, HasEntry, IsNodeAt, IsInChain, delta_at, end_at, entry_at, is_by, IsLinked, IsFilled}
 use Rattle.log_core.specs.Core.{CoreValue, newcomer, party, IsSoundParty, IsSound}
-use Rattle.log_core.specs.Steps.{entry_behind, MayLink, Proposes, links, linked}
+use Rattle.log_core.specs.Steps.{MayLink, MayFollow, links, linked}
 use Rattle.log_core.proofs.Ends.{end_at-within, end_at-greater, end_at-last, end_at-kept, end_at-grows, end_at-appended, length-appended, delta_at-kept, delta_at-appended}
 use Rattle.log_core.proofs.Nodes.{empty-last, node-inside, node-small}
 use Rattle.log_core.proofs.Looks.{keeps-shares}
@@ -43,8 +43,11 @@ module _ (ws : List ℕ) (n to : ℕ) where
   tail-link : tail (set ws (link_place n) to) ≡ tail ws
   tail-link = get_or-set_other ws (link_place n) 0 to 0 (λ e. absurd (omega arith))
 
-module _ (c : CoreValue) (s : IsSound c) (p n to k : ℕ) (d : Delta) (inp : p < length c.parties)
-    (m : MayLink c p n to k) (o : Proposes c p to k d) (free : link c.words n ≡ 0) where
+module _ (c : CoreValue) (s : IsSound c) (p n to k : ℕ) (e : Entry) (inp : p < length c.parties)
+    (m : MayLink c p n to k) (has : HasEntry c.words to e) (o : MayFollow c p k e) (free : link c.words n ≡ 0) where
+  abbrev d : Delta
+  d = e.delta
+
   abbrev t : CoreTerms
   t = c.terms
 
@@ -176,17 +179,17 @@ module _ (c : CoreValue) (s : IsSound c) (p n to k : ℕ) (d : Delta) (inp : p <
   new-seq : end_at h k + 1 ≡ end_at h' (length h + 1)
   new-seq = ap (λ z. end_at h z + 1) last ∙ sym (end_at-appended h d)
 
-  new-entry : entry_behind c k d ≡ entry_at t h' (length h)
+  new-entry : e ≡ entry_at t h' (length h)
   new-entry = λ j. record {
-    seq = new-seq j;
-    rows = rows_after t.base (whole j);
+    seq = (o.seq ∙ new-seq) j;
+    rows = (o.rows ∙ ap (rows_after t.base) whole) j;
     delta = sym (delta_at-appended h d) j;
   }
 
-  has-entry : (x y : ℕ) (e e' : Entry) → y ≡ x → e ≡ e' → HasEntry c.words x e → HasEntry ws' y e'
-  has-entry x y e e' same is has = subst (λ z. HasEntry ws' z e') (sym same) (subst (HasEntry ws' x) is record {
-    fits = has.fits;
-    payload = λ w small. payload-link c.words n to x w small ∙ has.payload w small;
+  has-entry : (x y : ℕ) (u v : Entry) → y ≡ x → u ≡ v → HasEntry c.words x u → HasEntry ws' y v
+  has-entry x y u v same is old = subst (λ z. HasEntry ws' z v) (sym same) (subst (HasEntry ws' x) is record {
+    fits = old.fits;
+    payload = λ w small. payload-link c.words n to x w small ∙ old.payload w small;
   })
 
   entries' : (i : ℕ) → i < length h' → HasEntry ws' (node_at ch' (i + 1)) (entry_at t h' i)
@@ -195,8 +198,7 @@ module _ (c : CoreValue) (s : IsSound c) (p n to k : ℕ) (d : Delta) (inp : p <
       (omega (arith, length-appended h d))
       (λ below. has-entry (node_at ch (i + 1)) (node_at ch' (i + 1)) (entry_at t h i) (entry_at t h' i)
       (old-node (i + 1) (omega (arith, node-count))) (old-entry i below) (s.filled.entries i below))
-      (has-entry to (node_at ch' (length h + 1)) (entry_behind c k d) (entry_at t h' (length h)) new-node new-entry
-      o.entry)
+      (has-entry to (node_at ch' (length h + 1)) e (entry_at t h' (length h)) new-node new-entry has)
 
   each-delta : (P : ℕ → Delta → Type 0) → ((i : ℕ) → i < length h → P i (delta_at h i)) → P (length h) d →
       (i : ℕ) → i < length h' → P i (delta_at h' i)

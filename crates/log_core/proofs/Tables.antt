@@ -80,3 +80,10 @@ rows-few fit fronts t h n a is =
     let most = limits.most_rows in
     let within = fit t.limits.row_limit t.base (take n h) (fronts t.limits.row_limit t.base h n is) limits.base_rows in
     omega arith
+
+pub rows-appended : RowsGrow → (limit : ℕ) (table : List Row) (h : List Delta) (d : Delta) (rows added : ℕ) →
+    IsLawful limit (after table h) d → rows ≡ rows_after table h → added ≡ (if is_insert d then 1 else 0) →
+    rows + added ≡ rows_after table (h ++ d ∷ [])
+rows-appended grow limit table h d rows added lawful is more =
+    (λ i. is i + more i) ∙ sym (grow limit (after table h) d lawful)
+    ∙ sym (ap (λ (t : List Row). length t) (fold-append applied table h (d ∷ [])))

@@ -28,14 +28,6 @@ pub record MayRead (core : CoreValue) (p node place : ℕ) : Type 0 where
   pub at : IsNodeAt core.chain node place
   pub seen : end_at core.chain.history place ≤ (party core p).seen
 
--- the entry that a delta would be behind this place
-abbrev pub entry_behind : CoreValue → ℕ → Delta → Entry
-entry_behind core place d = record {
-  seq = end_at core.chain.history place + 1;
-  rows = rows_after core.terms.base (take place core.chain.history ++ d ∷ []);
-  delta = d;
-}
-
 -- the party may try to link its next node behind the node in this place: it has seen that one, and the tail there, and
 -- the log is not full
 pub record MayLink (core : CoreValue) (p node to place : ℕ) : Type 0 where
@@ -44,11 +36,12 @@ pub record MayLink (core : CoreValue) (p node to place : ℕ) : Type 0 where
   pub room : end_at core.chain.history place < core.terms.limits.log_limit
   pub next : IsNextNode core p to
 
--- the node has the entry of a delta of the party's own that is lawful behind this place
-pub record Proposes (core : CoreValue) (p node place : ℕ) (d : Delta) : Type 0 where
-  pub author : d.author ≡ p
-  pub entry : HasEntry core.words node (entry_behind core place d)
-  pub lawful : IsLawful core.terms.limits.row_limit (after core.terms.base (take place core.chain.history)) d
+-- the entry may come next behind this place: its delta is the party's own and lawful there, and its numbers follow
+pub record MayFollow (core : CoreValue) (p place : ℕ) (e : Entry) : Type 0 where
+  pub author : e.delta.author ≡ p
+  pub seq : e.seq ≡ end_at core.chain.history place + 1
+  pub rows : e.rows ≡ rows_after core.terms.base (take place core.chain.history ++ e.delta ∷ [])
+  pub lawful : IsLawful core.terms.limits.row_limit (after core.terms.base (take place core.chain.history)) e.delta
 
 -- the party may try to move the tail from the node in this place to the one that it links to: it has seen the tail at
 -- the first, and has seen the second
@@ -132,8 +125,8 @@ Gives core p (LoadPayload node word) seen next =
     (place : ℕ) × MayRead core p node place × (word < 4) × (seen ≡ Value (payload core.words node word))
     × (next ≡ core)
 Gives core p (SwapLink node to) seen next =
-    (place : ℕ) × (d : Delta) × MayLink core p node to place × Proposes core p to place d
-    × ((link core.words node ≡ 0) × (seen ≡ Swapped true) × (next ≡ linked core p node to place d)
+    (place : ℕ) × (e : Entry) × MayLink core p node to place × HasEntry core.words to e × MayFollow core p place e
+    × ((link core.words node ≡ 0) × (seen ≡ Swapped true) × (next ≡ linked core p node to place e.delta)
     ⊎ (link core.words node ≢ 0) × (seen ≡ Swapped false) × (next ≡ sees_next core p place))
 Gives core p (SwapTail from to) seen next =
     (place : ℕ) × MayMoveTail core p from to place

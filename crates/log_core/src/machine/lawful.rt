@@ -1,5 +1,5 @@
 //! Whether a delta is lawful behind a place of the chain.
-ghost use Rattle.std.specs.Prelude.{◌≡◌, ◌≢◌, ℕ, if◌then◌else◌, ◌≤◌, ◌<◌, length, take, slice_get, Some, None, IsTrue, ◌↔◌};
+ghost use Rattle.std.specs.Prelude.{◌≡◌, ◌≢◌, ℕ, if◌then◌else◌, ◌≤◌, ◌<◌, length, take, [], ◌∷◌, ◌++◌, slice_get, Some, None, IsTrue, ◌↔◌};
 ghost use Rattle.cubit_base.specs.Tuple.{TupleValue};
 ghost use Rattle.cubit_base.specs.LiveRow.{IsFree};
 ghost use Rattle.cubit_base.specs.Delta.{IsInsert, IsLawful, is_insert};
@@ -29,7 +29,7 @@ fn is_live(row: &Option<Row>, key: &Key) -> bool
     }
 }
 
-pub(super) fn rows_added(delta: &Delta) -> u32
+fn rows_added(delta: &Delta) -> u32
     ensures value { result ≡ (if is_insert delta.now then 1 else 0) }
     ensures within { result ≤ 1 }
 {
@@ -48,8 +48,8 @@ fn row_after(delta: &Delta, row: u32, before: Option<Row>) -> Option<Row>
 }
 
 impl Core {
-    /// How many rows there are behind a place.
-    pub(super) fn rows_behind(&self, place: u32) -> u32
+    // How many rows there are behind a place.
+    fn rows_behind(&self, place: u32) -> u32
         requires { place ≤ entry_count self.now.chain.history }
         ensures value { result ≡ rows_after self.now.terms.base (take place self.now.chain.history) }
         ensures within { result ≤ 16_777_216 }
@@ -63,6 +63,17 @@ impl Core {
             rows += rows_added(self.delta(i));
         }
         rows
+    }
+
+    /// How many rows there are after a delta behind a place.
+    pub(super) fn rows_with(&self, place: u32, delta: &Delta) -> u32
+        requires place { place ≤ entry_count self.now.chain.history }
+        requires lawful { IsLawful self.now.terms.limits.row_limit
+            (after self.now.terms.base (take place self.now.chain.history)) delta.now }
+        ensures { result ≡ rows_after self.now.terms.base (take place self.now.chain.history ++ delta.now ∷ []) }
+    {
+        laws::deltas();
+        self.rows_behind(place) + rows_added(delta)
     }
 
     // A row behind a place, or none past the last one.

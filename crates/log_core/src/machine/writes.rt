@@ -1,8 +1,7 @@
 //! What a step does to a core. Each of these is called where the core that it leaves is known to be sound.
-ghost use Rattle.std.specs.Prelude.{◌≡◌, ◌<◌, length, slice_set};
-ghost use Rattle.cubit_base.specs.declared.delta.Delta.{Delta as DeltaValue};
-ghost use Rattle.log_core.specs.Chain.{delta_count};
-ghost use Rattle.log_core.specs.Core.{with_party, IsSound};
+ghost use Rattle.std.specs.Prelude.{◌≡◌, ◌+◌, ◌*◌, ◌^◌, ◌<◌, ◌≤◌, length, slice_set};
+ghost use Rattle.log_core.specs.Chain.{delta_count, entry_count};
+ghost use Rattle.log_core.specs.Core.{party as party_of, with_party, IsSound};
 ghost use Rattle.log_core.specs.Steps.{sees_next, reaches_next, linked, tail_moved};
 
 use super::Core;
@@ -63,6 +62,24 @@ impl Core {
         let _len = self.len();
         self.words[0] = u64::from(to);
         self.tail_place = place + 1;
+        self.parties[party] = of;
+    }
+
+    pub(super) fn link(&mut self, party: usize, node: u32, to: u32, place: u32, delta: &Delta)
+        requires party { party < length self.old.parties }
+        requires node { 5 * node + 5 < length self.old.words }
+        requires place { place ≤ entry_count self.old.chain.history }
+        requires room { delta_count self.old.chain.history < self.old.terms.limits.log_limit }
+        requires used { (party_of self.old party).used < 2 ^ 31 }
+        requires sound { IsSound (linked self.old party node to place delta.now) }
+        ensures { self.new ≡ linked self.old party node to place delta.now }
+    {
+        let of = self.party(party).links(self.end_of(place));
+        let _len = self.len();
+        self.words[5 * node as usize + 5] = u64::from(to);
+        self.nodes.push_reserved(to);
+        // The check has to be shown the fields here: a move of the whole delta gets no proof.
+        self.deltas.push_reserved(Delta { ..*delta });
         self.parties[party] = of;
     }
 }
