@@ -4,6 +4,7 @@ pub mod Entries
 pub mod Keeping
 pub mod Links
 pub mod Looks
+pub mod Made
 pub mod Nodes
 pub mod Stores
 pub mod Tables

@@ -3,6 +3,7 @@ use Rattle.std.proofs.Common.{◌≡◌, ◌≢◌, ℕ, zero, suc, ◌+◌, ◌
 use mathlib.Core.Logic.{dite}
 use native.Mathlib.Decide.{ℕ_discrete}
 use Rattle.std.proofs.lemmas.List.{take_more}
+use Rattle.std.proofs.lemmas.Option.{slice_get_within, get_or_from_slice_get}
 use Rattle.std.proofs.lemmas.List.Sums.{fold-append}
 use Rattle.std.proofs.lemmas.List.Elements.{All-cons, All-nil}
 use Rattle.cubit_base.specs.Key.{KeyValue}
@@ -87,3 +88,11 @@ pub rows-appended : RowsGrow → (limit : ℕ) (table : List Row) (h : List Delt
 rows-appended grow limit table h d rows added lawful is more =
     (λ i. is i + more i) ∙ sym (grow limit (after table h) d lawful)
     ∙ sym (ap (λ (t : List Row). length t) (fold-append applied table h (d ∷ [])))
+
+-- a copy with one more row
+pub copied-next : (table copy longer : List Row) (n : ℕ) (row : Row) → copy ≡ take n table →
+    slice_get table n ≡ Some row → longer ≡ copy ++ row ∷ [] → longer ≡ take (n + 1) table
+copied-next table copy longer n row is at more =
+    more ∙ ap (λ (rows : List Row). rows ++ row ∷ []) is
+    ∙ sym (take_more table n row (slice_get_within table n row at)
+    ∙ ap (λ (r : Row). take n table ++ r ∷ []) (get_or_from_slice_get table n row row at))

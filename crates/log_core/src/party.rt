@@ -1,5 +1,6 @@
 //! What a core keeps of each party.
 ghost use Rattle.std.specs.Prelude.{◌≡◌, ◌^◌, ◌+◌, ◌<◌};
+ghost use Rattle.log_core.specs.Core.{newcomer};
 ghost use Rattle.log_core.specs.Steps.{sees as party_sees, reaches as party_reaches, links as party_links, loads_tail as party_loads};
 
 /// What one party has seen and made.
@@ -18,6 +19,19 @@ pub struct Party {
 }
 
 impl Party {
+    /// A party that has made no step.
+    pub(crate) fn newcomer() -> Party
+        ensures { result ≡ newcomer }
+    {
+        Party {
+            seen: 0,
+            reached: 0,
+            low: 0,
+            last: 0,
+            used: 0,
+        }
+    }
+
     pub(crate) fn sees(self, end: u32) -> Party
         ensures { result ≡ party_sees self end }
     {
