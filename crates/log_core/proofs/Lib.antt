@@ -6,5 +6,6 @@ pub mod Links
 pub mod Looks
 pub mod Made
 pub mod Nodes
+pub mod Same
 pub mod Stores
 pub mod Tables

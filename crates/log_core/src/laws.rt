@@ -19,4 +19,18 @@ pub fn steps()
     // Each of the eight kinds leaves a sound core.
     ensures sound { (core next : CoreValue) (p : ℕ) (step : Step) (seen : Seen) → IsSound core →
         TakesStep core p step seen next → IsSound next }
-{}
+
+    // A step has one answer, and leaves one core.
+    ensures one { (core : CoreValue) (p : ℕ) (step : Step) (a b : Seen) (y z : CoreValue) → IsSound core →
+        TakesStep core p step a y → TakesStep core p step b z → (a ≡ b) × (y ≡ z) }
+{
+    cubit_base::laws::words();
+}
+
+/// The words of a sound core decide its chain.
+pub fn chains()
+    ensures one { (a b : CoreValue) → IsSound a → IsSound b → a.terms ≡ b.terms → a.words ≡ b.words →
+        a.chain ≡ b.chain }
+{
+    cubit_base::laws::words();
+}

@@ -1,5 +1,6 @@
 use Rattle.log_core.proofs.Keeping.{keeps-sound}
+use Rattle.log_core.proofs.Same.{takes-one}
 use Rattle.log_core.proofs.laws.steps.Goals as goal
 
 pub returns : goal.returns
-returns c = record { sound = keeps-sound }
+returns c = record { sound = keeps-sound; one = takes-one c.words.ensures.tuple }
