@@ -2,6 +2,7 @@ pub mod Bounds
 pub mod Ends
 pub mod Entries
 pub mod Keeping
+pub mod Grown
 pub mod Links
 pub mod Looks
 pub mod Made
