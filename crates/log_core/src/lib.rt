@@ -11,3 +11,6 @@ pub use machine::Core;
 pub use cubit_base::Memory;
 pub use party::Party;
 pub use step::{Seen, Step, Unlawful};
+
+#[cfg(test)]
+mod tests;
