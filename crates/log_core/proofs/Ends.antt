@@ -59,5 +59,8 @@ delta_at-appended h d = get_or_at h d [] no_delta (length h) refl
 pub count-before : (h : List Delta) (p k : ℕ) → k < length h → is_by p (delta_at h k) ≡ true →
     count_by (is_by p) (take k h) < count_by (is_by p) h
 count-before h p k lt own =
-    omega (arith, count_by_more_yes (is_by p) h k no_delta lt own,
-    sum_by-take-le (λ (d : Delta). cond (is_by p d) 1 0) h (k + 1))
+    omega (
+      arith,
+      count_by_more_yes (is_by p) h k no_delta lt own,
+      sum_by-take-le (λ (d : Delta). cond (is_by p d) 1 0) h (k + 1),
+    )

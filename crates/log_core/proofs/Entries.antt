@@ -9,7 +9,8 @@ use Rattle.log_core.specs.Chain.{payload, HasEntry}
 abbrev pub TellsTuple : Type 0
 TellsTuple = (a b : TupleValue) → IsTuple a → IsTuple b → tuple_word a ≡ tuple_word b → a ≡ b
 
-same-tuple : TellsTuple → (a b : Option TupleValue) → IfSome a IsTuple → IfSome b IsTuple → word_of a ≡ word_of b → a ≡ b
+same-tuple : TellsTuple → (a b : Option TupleValue) → IfSome a IsTuple → IfSome b IsTuple → word_of a ≡ word_of b
+    → a ≡ b
 same-tuple tells None None fa fb e = refl
 same-tuple tells None (Some y) fa fb e = absurd (omega arith)
 same-tuple tells (Some x) None fa fb e = absurd (omega arith)

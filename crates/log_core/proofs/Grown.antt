@@ -10,11 +10,11 @@ use Rattle.log_core.specs.declared.step.Seen.{Seen}
 use Rattle.log_core.specs.Chain.{Chain, tail, link, node_at, IsNodeAt, end_at}
 use Rattle.log_core.specs.Core.{CoreValue, party, IsSound}
 use Rattle.log_core.specs.Steps.{Gives, TakesStep, tail_end, linked, tail_moved, MayMoveTail}
-use Rattle.log_core.specs.Growing.{Grows, behind}
+use Rattle.log_core.specs.Growing.{HasGrown, behind}
 use Rattle.log_core.proofs.Ends.{end_at-grows, end_at-rising, end_at-last, end_at-place}
 use Rattle.log_core.proofs.Nodes.{empty-last, full-inner, one-place}
 
-grows-same : (c z : CoreValue) → z.terms ≡ c.terms → z.chain ≡ c.chain → Grows c z
+grows-same : (c z : CoreValue) → z.terms ≡ c.terms → z.chain ≡ c.chain → HasGrown c z
 grows-same c z terms chain = record {
   terms = terms;
   history = ([], ap (λ (x : Chain). x.history) chain ∙ sym (append-nil c.chain.history));
@@ -22,7 +22,7 @@ grows-same c z terms chain = record {
   tail = let e = ap (λ (x : Chain). end_at x.history x.tail_place) chain in omega arith;
 }
 
-grows-linked : (c : CoreValue) (p n to k : ℕ) (d : Delta) → Grows c (linked c p n to k d)
+grows-linked : (c : CoreValue) (p n to k : ℕ) (d : Delta) → HasGrown c (linked c p n to k d)
 grows-linked c p n to k d = record {
   terms = refl;
   history = (d ∷ [], refl);
@@ -31,7 +31,7 @@ grows-linked c p n to k d = record {
 }
 
 grows-moved : (c : CoreValue) → IsSound c → (p from to k : ℕ) → MayMoveTail c p from to k → tail c.words ≡ from →
-    Grows c (tail_moved c p to k)
+    HasGrown c (tail_moved c p to k)
 grows-moved c s p from to k may hit = record {
   terms = refl;
   history = ([], sym (append-nil c.chain.history));
@@ -43,24 +43,24 @@ grows-moved c s p from to k may hit = record {
       end_at-rising c.chain.history c.chain.tail_place (k + 1) (omega arith);
 }
 
-grows-gives : (c z : CoreValue) (p : ℕ) (step : Step) (seen : Seen) → IsSound c → Gives c p step seen z → Grows c z
-grows-gives c z p (Store node word value) seen s g = subst (Grows c) (sym g.3) (grows-same c _ refl refl)
-grows-gives c z p LoadTail seen s g = subst (Grows c) (sym g.1) (grows-same c _ refl refl)
-grows-gives c z p (LoadLink node) seen s g = subst (Grows c) (sym g.3) (grows-same c _ refl refl)
-grows-gives c z p (LoadPayload node word) seen s g = subst (Grows c) (sym g.4) (grows-same c c refl refl)
+grows-gives : (c z : CoreValue) (p : ℕ) (step : Step) (seen : Seen) → IsSound c → Gives c p step seen z → HasGrown c z
+grows-gives c z p (Store node word value) seen s g = subst (HasGrown c) (sym g.3) (grows-same c _ refl refl)
+grows-gives c z p LoadTail seen s g = subst (HasGrown c) (sym g.1) (grows-same c _ refl refl)
+grows-gives c z p (LoadLink node) seen s g = subst (HasGrown c) (sym g.3) (grows-same c _ refl refl)
+grows-gives c z p (LoadPayload node word) seen s g = subst (HasGrown c) (sym g.4) (grows-same c c refl refl)
 grows-gives c z p (SwapLink node to) seen s g = ⊎_elim
-    (λ u. subst (Grows c) (sym u.2) (grows-linked c p node to g.0 g.1.delta))
-    (λ u. subst (Grows c) (sym u.2) (grows-same c _ refl refl))
+    (λ u. subst (HasGrown c) (sym u.2) (grows-linked c p node to g.0 g.1.delta))
+    (λ u. subst (HasGrown c) (sym u.2) (grows-same c _ refl refl))
     g.5
 grows-gives c z p (SwapTail from to) seen s g = ⊎_elim
-    (λ u. subst (Grows c) (sym u.2) (grows-moved c s p from to g.0 g.1 u.0))
-    (λ u. subst (Grows c) (sym u.2) (grows-same c _ refl refl))
+    (λ u. subst (HasGrown c) (sym u.2) (grows-moved c s p from to g.0 g.1 u.0))
+    (λ u. subst (HasGrown c) (sym u.2) (grows-same c _ refl refl))
     g.2
-grows-gives c z p Note seen s g = subst (Grows c) (sym g.1) (grows-same c _ refl refl)
-grows-gives c z p (Join note) seen s g = subst (Grows c) (sym g.2) (grows-same c _ refl refl)
+grows-gives c z p Note seen s g = subst (HasGrown c) (sym g.1) (grows-same c _ refl refl)
+grows-gives c z p (Join note) seen s g = subst (HasGrown c) (sym g.2) (grows-same c _ refl refl)
 
 pub takes-grows : (core next : CoreValue) (p : ℕ) (step : Step) (seen : Seen) → IsSound core →
-    TakesStep core p step seen next → Grows core next
+    TakesStep core p step seen next → HasGrown core next
 takes-grows core next p step seen s takes = grows-gives core next p step seen s takes.gives
 
 -- the node behind one of the chain, by its link
@@ -71,7 +71,7 @@ behind-at c s n k at = dite (ℕ_discrete (link c.words n) 0)
     let last = empty-last c.terms c.words c.chain s.linked s.filled n k at e in (
       k,
       subst (λ x. IsNodeAt c.chain x k)
-      (sym (ap (λ (b : Bool). let r : ℕ = cond b n (link c.words n) in r) (eq-eqb (link c.words n) 0 e))) at,
+          (sym (ap (λ (b : Bool). let r : ℕ = cond b n (link c.words n) in r) (eq-eqb (link c.words n) 0 e))) at,
       end_at-last c.chain.history k (omega arith) ∙ sym (end_at-last c.chain.history (k + 1) (omega arith)),
     ))
     (λ ne.
@@ -79,11 +79,11 @@ behind-at c s n k at = dite (ℕ_discrete (link c.words n) 0)
     let inner = full-inner c.terms c.words c.chain s.linked s.filled n k at ne in (
       k + 1,
       subst (λ x. IsNodeAt c.chain x (k + 1))
-      (sym (ap (λ (b : Bool). let r : ℕ = cond b n (link c.words n) in r) (ne_eqb (link c.words n) 0 ne)))
-      (record {
-        within = omega arith;
-        is = sym (subst (λ x. link c.words x ≡ node_at c.chain (k + 1)) at.is (s.linked.next k at.within));
-      }),
+          (sym (ap (λ (b : Bool). let r : ℕ = cond b n (link c.words n) in r) (ne_eqb (link c.words n) 0 ne)))
+          (record {
+            within = omega arith;
+            is = sym (subst (λ x. link c.words x ≡ node_at c.chain (k + 1)) at.is (s.linked.next k at.within));
+          }),
       refl,
     ))
 

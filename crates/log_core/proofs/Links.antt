@@ -14,7 +14,7 @@ use Rattle.log_core.specs.declared.party.Party.{Party}
 use Rattle.log_core.specs.Terms.{CoreTerms, share, first_node, node_count}
 use Rattle.log_core.specs.Chain.{Chain, tail, payload_place, link_place, payload, link, node_at, HasEntry, IsNodeAt, IsInChain, delta_at, end_at, entry_at, is_by, IsLinked, IsFilled}
 use Rattle.log_core.specs.Core.{CoreValue, newcomer, party, IsSoundParty, IsSound}
-use Rattle.log_core.specs.Steps.{MayLink, MayFollow, links, linked}
+use Rattle.log_core.specs.Steps.{MayLink, MayComeNext, links, linked}
 use Rattle.log_core.proofs.Ends.{end_at-within, end_at-greater, end_at-last, end_at-kept, end_at-grows, end_at-appended, length-appended, delta_at-kept, delta_at-appended}
 use Rattle.log_core.proofs.Nodes.{empty-last, node-inside, node-small}
 use Rattle.log_core.proofs.Looks.{keeps-shares}
@@ -44,7 +44,7 @@ module _ (ws : List ℕ) (n to : ℕ) where
   tail-link = get_or-set_other ws (link_place n) 0 to 0 (λ e. absurd (omega arith))
 
 module _ (c : CoreValue) (s : IsSound c) (p n to k : ℕ) (e : Entry) (inp : p < length c.parties)
-    (m : MayLink c p n to k) (has : HasEntry c.words to e) (o : MayFollow c p k e) (free : link c.words n ≡ 0) where
+    (m : MayLink c p n to k) (has : HasEntry c.words to e) (o : MayComeNext c p k e) (free : link c.words n ≡ 0) where
   abbrev d : Delta
   d = e.delta
 
@@ -144,10 +144,13 @@ module _ (c : CoreValue) (s : IsSound c) (p n to k : ℕ) (e : Entry) (inp : p <
       (λ below. s.linked.apart i j lt below (sym (old-node i (omega arith)) ∙ e ∙ old-node j below))
       (λ ge.
       let is : j ≡ length h + 1 = omega (arith, node-count, node-count') in
-      outside (i, record {
-        within = omega (arith, node-count');
-        is = sym (old-node i (omega (arith, node-count'))) ∙ e ∙ ap (node_at ch') is ∙ new-node;
-      }))
+      outside (
+        i,
+        record {
+          within = omega (arith, node-count');
+          is = sym (old-node i (omega (arith, node-count'))) ∙ e ∙ ap (node_at ch') is ∙ new-node;
+        },
+      ))
 
   others' : (x : ℕ) → x < node_count t → (IsInChain ch' x → ⊥) → link ws' x ≡ 0
   others' x lt out =

@@ -115,8 +115,12 @@ module _ (t : CoreTerms) (ws : List ℕ) (ch : Chain) (l : IsLinked t ws ch) (f 
       let count = l.count in let lt : k < length ch.history = omega arith in
       let up : k + 1 ≡ suc k = omega arith in
       let a : ℕ = (delta_at ch.history k).author in
-      omega (arith, f.nodes k lt, ap (node_at ch) up,
-      node-inside t a (count_by (is_by a) (take k ch.history)) (f.authors k lt) (own-entry k lt keeps))
+      omega (
+        arith,
+        f.nodes k lt,
+        ap (node_at ch) up,
+        node-inside t a (count_by (is_by a) (take k ch.history)) (f.authors k lt) (own-entry k lt keeps),
+      )
 
 -- ends tell which place comes first
 pub place-before : (h : List Delta) (j k : ℕ) → j ≤ length h → end_at h j ≤ end_at h k → j ≤ k

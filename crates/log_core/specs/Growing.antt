@@ -5,7 +5,7 @@ use Rattle.log_core.specs.Core.{CoreValue}
 use Rattle.log_core.specs.Steps.{tail_end}
 
 -- the history and the chain have grown at their ends alone, and the tail has not gone back
-pub record Grows (core next : CoreValue) : Type 0 where
+pub record HasGrown (core next : CoreValue) : Type 0 where
   pub terms : next.terms ≡ core.terms
   pub history : (rest : List Delta) × (next.chain.history ≡ core.chain.history ++ rest)
   pub nodes : (rest : List ℕ) × (next.chain.nodes ≡ core.chain.nodes ++ rest)

@@ -37,7 +37,7 @@ pub record MayLink (core : CoreValue) (p node to place : ℕ) : Type 0 where
   pub next : IsNextNode core p to
 
 -- the entry may come next behind this place: its delta is the party's own and lawful there, and its numbers follow
-pub record MayFollow (core : CoreValue) (p place : ℕ) (e : Entry) : Type 0 where
+pub record MayComeNext (core : CoreValue) (p place : ℕ) (e : Entry) : Type 0 where
   pub author : e.delta.author ≡ p
   pub seq : e.seq ≡ end_at core.chain.history place + 1
   pub rows : e.rows ≡ rows_after core.terms.base (take place core.chain.history ++ e.delta ∷ [])
@@ -125,7 +125,7 @@ Gives core p (LoadPayload node word) seen next =
     (place : ℕ) × MayRead core p node place × (word < 4) × (seen ≡ Value (payload core.words node word))
     × (next ≡ core)
 Gives core p (SwapLink node to) seen next =
-    (place : ℕ) × (e : Entry) × MayLink core p node to place × HasEntry core.words to e × MayFollow core p place e
+    (place : ℕ) × (e : Entry) × MayLink core p node to place × HasEntry core.words to e × MayComeNext core p place e
     × ((link core.words node ≡ 0) × (seen ≡ Swapped true) × (next ≡ linked core p node to place e.delta)
     ⊎ (link core.words node ≢ 0) × (seen ≡ Swapped false) × (next ≡ sees_next core p place))
 Gives core p (SwapTail from to) seen next =

@@ -19,7 +19,12 @@ pub(crate) fn to_words(entry: &Entry) -> [u64; 4]
         + u64::from(entry.rows) * 0x80_0000
         + u64::from(delta.key.line) * 0x1_0000_0000_0000
         + u64::from(delta.author) * 0x8_0000_0000_0000;
-    [place, counts, tuple_word(&delta.before), tuple_word(&delta.after)]
+    [
+        place,
+        counts,
+        tuple_word(&delta.before),
+        tuple_word(&delta.after),
+    ]
 }
 
 /// The entry that has these words, or none where no entry has them.
@@ -85,5 +90,88 @@ fn word_tuple(word: u64) -> Option<Option<Tuple>>
     match Tuple::unpack(word) {
         Some(tuple) => Some(Some(tuple)),
         None => None,
+    }
+}
+
+#[cfg(test)]
+mod tests {
+    use super::*;
+
+    const FIRST: [u64; 4] = [
+        1,
+        281_475_001_876_481,
+        92_624_370_551_265_711,
+        92_625_470_062_893_487,
+    ];
+
+    #[test]
+    fn words_come_back(rt: HostRuntime) {
+        let [place, counts, before, after] = FIRST;
+        for (at, words) in [
+            FIRST,
+            [place, 2_533_274_815_561_729, before, after],
+            [
+                4_294_967_297,
+                562_949_978_587_137,
+                97_500_712_678_478_937,
+                97_462_229_771_506_777,
+            ],
+            [place, counts, before, 0],
+            [12_884_901_897, 2_533_274_823_950_338, 0, 1_099_511_627_779],
+            [place, 0x0001_0000_01c0_0000, before, after],
+            [0x00ff_ffff_ffff_ffff, 0x01ff_8000_0040_0000, before, after],
+        ]
+        .into_iter()
+        .enumerate()
+        {
+            let Some(entry) = from_words(&words) else {
+                assert!(rt; false, "at {at}");
+                continue;
+            };
+            assert_eq!(rt; to_words(&entry), words, "at {at}");
+        }
+    }
+
+    #[test]
+    fn an_entry_is_told(rt: HostRuntime) {
+        let Some(entry) = from_words(&[0x00ff_ffff_ffff_ffff, 0x01ff_8000_0040_0000, 0, FIRST[2]])
+        else {
+            assert!(rt; false);
+            return;
+        };
+        assert_eq!(rt; (entry.seq, entry.rows), (4_194_304, 16_777_216));
+        assert_eq!(rt; (entry.delta.author, entry.delta.row), (63, 16_777_215));
+        assert_eq!(rt;
+            (entry.delta.key.order, entry.delta.key.line),
+            (4_294_967_295, 7)
+        );
+        assert_eq!(rt; entry.delta.before, None);
+        assert_eq!(rt; entry.delta.after, Tuple::unpack(FIRST[2]));
+    }
+
+    #[test]
+    fn no_entries(rt: HostRuntime) {
+        let [place, counts, before, after] = FIRST;
+        for (at, words) in [
+            [0, counts, before, after],
+            [0x0100_0000_0000_0001, counts, before, after],
+            [place, 0x0001_0000_0180_0000, before, after],
+            [place, 0x0001_0000_01c0_0001, before, after],
+            [place, 0x0001_0000_0000_0001, before, after],
+            [place, 0x0001_8000_0080_0001, before, after],
+            [place, 0x0000_0000_0180_0001, before, after],
+            [place, 0x0201_0000_0180_0001, before, after],
+            [place, 0x8001_0000_0180_0001, before, after],
+            [0x0000_0003_0000_0001, counts, before, after],
+            [place, counts, 0, 0],
+            [place, counts, 2, after],
+            [place, counts, before, 1],
+            [place, counts, 0x0349_115f_d040_99af, after],
+        ]
+        .into_iter()
+        .enumerate()
+        {
+            assert!(rt; from_words(&words).is_none(), "at {at}");
+        }
     }
 }

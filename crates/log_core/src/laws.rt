@@ -4,7 +4,7 @@ ghost use Rattle.cubit_base.specs.declared.entry.Entry.{Entry};
 ghost use Rattle.log_core.specs.EntryWords.{FitsWords, entry_words};
 ghost use Rattle.log_core.specs.Chain.{tail, link, node_at, IsNodeAt, entry_count, end_at};
 ghost use Rattle.log_core.specs.Core.{CoreValue, party, IsSound};
-ghost use Rattle.log_core.specs.Growing.{Grows, behind};
+ghost use Rattle.log_core.specs.Growing.{HasGrown, behind};
 ghost use Rattle.log_core.specs.Steps.{TakesStep};
 ghost use Rattle.log_core.specs.declared.step.Step.{Step};
 ghost use Rattle.log_core.specs.declared.step.Seen.{Seen};
@@ -28,7 +28,7 @@ pub fn steps()
 
     // The history and the chain only grow at their ends, and the tail does not go back.
     ensures grows { (core next : CoreValue) (p : ℕ) (step : Step) (seen : Seen) → IsSound core →
-        TakesStep core p step seen next → Grows core next }
+        TakesStep core p step seen next → HasGrown core next }
 {
     cubit_base::laws::words();
 }

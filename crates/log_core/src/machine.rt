@@ -53,9 +53,9 @@ impl Core {
     ) -> Result<Core, Memory>
         requires { AreTerms (record { base = base.now; shares = shares.now; limits = limits.now }) }
         ensures { IfOk result (λ core. core ≡ made_core (record {
-            base = base.now;
-            shares = shares.now;
-            limits = limits.now;
+          base = base.now;
+          shares = shares.now;
+          limits = limits.now;
         })) }
     {
         let mut nodes = Vec::with_capacity(alloc, limits.log_limit as usize + 1)?;
@@ -101,13 +101,7 @@ impl Core {
         }
     }
 
-    fn store(
-        &mut self,
-        party: usize,
-        node: u32,
-        word: u8,
-        value: u64,
-    ) -> Result<Seen, Unlawful>
+    fn store(&mut self, party: usize, node: u32, word: u8, value: u64) -> Result<Seen, Unlawful>
         requires { party < length self.old.parties }
         ensures { ComesTo self.old party (Store node word value) result self.new }
     {
@@ -155,9 +149,7 @@ impl Core {
         if word > 3 {
             return Err(Unlawful);
         }
-        Ok(Seen::Value(
-            self.word(5 * node as usize + usize::from(word) + 1),
-        ))
+        Ok(Seen::Value(self.word(5 * node as usize + usize::from(word) + 1)))
     }
 
     fn note(&mut self, party: usize) -> Result<Seen, Unlawful>

@@ -1,8 +1,8 @@
+ghost use Rattle.std.specs.Prelude.{◌≡◌, ◌≤◌, ◌<◌, length, sum, IfOk};
+
 use crate::{Core, Memory, Step};
 use cubit_base::{Flag, Key, Limits, LineStatus, Table, Tuple};
 use std::alloc::Global;
-
-ghost use Rattle.std.specs.Prelude.{◌≡◌, ◌≤◌, ◌<◌, length, sum, IfOk};
 
 mod drawn;
 mod plain;
@@ -32,18 +32,22 @@ fn base(alloc: Global) -> Result<Table, Memory>
     ensures { IfOk result (λ table. length table ≡ 3) }
 {
     let mut table = Table::new(alloc);
-    table.push(Key { order: 1, line: 1 }, Some(tuple(2_116_823, 1533, 17, 4, 2)))?;
-    table.push(Key { order: 1, line: 2 }, Some(tuple(4_598_316, 1563, 36, 9, 6)))?;
-    table.push(Key { order: 1, line: 3 }, Some(tuple(1_330_960, 1489, 8, 10, 2)))?;
+    table.push(
+        Key { order: 1, line: 1 },
+        Some(tuple(2_116_823, 1533, 17, 4, 2)),
+    )?;
+    table.push(
+        Key { order: 1, line: 2 },
+        Some(tuple(4_598_316, 1563, 36, 9, 6)),
+    )?;
+    table.push(
+        Key { order: 1, line: 3 },
+        Some(tuple(1_330_960, 1489, 8, 10, 2)),
+    )?;
     Ok(table)
 }
 
-fn core(
-    alloc: Global,
-    shares: &[u32],
-    row_limit: u32,
-    log_limit: u32,
-) -> Result<Core, Memory>
+fn core(alloc: Global, shares: &[u32], row_limit: u32, log_limit: u32) -> Result<Core, Memory>
     requires parties { (1 ≤ length shares.now) × (length shares.now ≤ 64) }
     requires nodes { sum shares.now ≤ 4_194_304 }
     requires rows { (3 ≤ row_limit) × (row_limit ≤ 16_777_216) }
@@ -64,4 +68,3 @@ fn stores(node: u32, words: [u64; 4]) -> [Step; 4] {
     let store = |word, value| Step::Store { node, word, value };
     [store(0, a), store(1, b), store(2, c), store(3, d)]
 }
-

@@ -110,7 +110,11 @@ impl Core {
             (after self.now.terms.base (take place self.now.chain.history)) delta.now }
     {
         if delta.before.is_some() {
-            return is_row(&self.row_behind(place, delta.row), &delta.key, &delta.before);
+            return is_row(
+                &self.row_behind(place, delta.row),
+                &delta.key,
+                &delta.before,
+            );
         }
         self.is_insert_behind(place, delta)
     }

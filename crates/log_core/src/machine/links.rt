@@ -2,7 +2,7 @@
 ghost use Rattle.std.specs.Prelude.{◌≡◌, ℕ, ◌+◌, ◌*◌, ◌<◌, ◌≤◌, [], ◌∷◌, length, IfSome, IfNone, IsTrue, ◌↔◌};
 ghost use Rattle.cubit_base.specs.declared.entry.Entry.{Entry as EntryValue};
 ghost use Rattle.log_core.specs.Chain.{payload, HasEntry, entry_count};
-ghost use Rattle.log_core.specs.Steps.{MayLink, MayFollow, MayMoveTail, ComesTo};
+ghost use Rattle.log_core.specs.Steps.{MayLink, MayComeNext, MayMoveTail, ComesTo};
 ghost use Rattle.log_core.specs.declared.step.Step.TheVariants.{SwapLink, SwapTail};
 
 use super::Core;
@@ -11,12 +11,7 @@ use crate::{Seen, Unlawful, laws};
 use cubit_base::Entry;
 
 impl Core {
-    pub(super) fn swap_link(
-        &mut self,
-        party: usize,
-        node: u32,
-        to: u32,
-    ) -> Result<Seen, Unlawful>
+    pub(super) fn swap_link(&mut self, party: usize, node: u32, to: u32) -> Result<Seen, Unlawful>
         requires { party < length self.old.parties }
         ensures { ComesTo self.old party (SwapLink node to) result self.new }
     {
@@ -35,12 +30,7 @@ impl Core {
         Ok(Seen::Swapped(true))
     }
 
-    pub(super) fn swap_tail(
-        &mut self,
-        party: usize,
-        from: u32,
-        to: u32,
-    ) -> Result<Seen, Unlawful>
+    pub(super) fn swap_tail(&mut self, party: usize, from: u32, to: u32) -> Result<Seen, Unlawful>
         requires { party < length self.old.parties }
         ensures { ComesTo self.old party (SwapTail from to) result self.new }
     {
@@ -93,24 +83,24 @@ impl Core {
     fn proposed(&self, party: usize, node: u32, place: u32) -> Option<Entry>
         requires node { 5 * node + 5 < length self.now.words }
         requires place { place ≤ entry_count self.now.chain.history }
-        ensures some { IfSome result (λ e. HasEntry self.now.words node e × MayFollow self.now party place e) }
+        ensures some { IfSome result (λ e. HasEntry self.now.words node e × MayComeNext self.now party place e) }
         ensures none { IfNone result ((e : EntryValue) → HasEntry self.now.words node e →
-            MayFollow self.now party place e → ⊥) }
+            MayComeNext self.now party place e → ⊥) }
     {
         laws::entries();
         let Some(entry) = from_words(&self.payload(node)) else {
             return None;
         };
-        if !self.may_follow(party, place, &entry) {
+        if !self.may_come_next(party, place, &entry) {
             return None;
         }
         Some(entry)
     }
 
     // Whether an entry may come next behind a place.
-    fn may_follow(&self, party: usize, place: u32, entry: &Entry) -> bool
+    fn may_come_next(&self, party: usize, place: u32, entry: &Entry) -> bool
         requires { place ≤ entry_count self.now.chain.history }
-        ensures { IsTrue result ↔ MayFollow self.now party place entry.now }
+        ensures { IsTrue result ↔ MayComeNext self.now party place entry.now }
     {
         let delta = &entry.delta;
         if !self.is_lawful_behind(place, delta) {

@@ -1,4 +1,6 @@
 // Drawn schedules, step by step beside the plain model.
+ghost use Rattle.std.specs.Prelude.{◌<◌};
+
 use super::plain::Plain;
 use super::{core, stores};
 use crate::{Core, Memory, Seen, Step};
@@ -9,6 +11,7 @@ const TUPLES: [u64; 3] = [
     97_500_712_678_478_937,
     93_036_675_598_949_921,
 ];
+
 const CHANGED: u64 = 92_625_470_062_893_487;
 
 #[derive(Drop)]
@@ -52,8 +55,14 @@ fn draft(draws: &mut Draws, plain: &Plain, party: u8) -> Result<[u64; 4], Memory
         Some(r) => r.line,
         None => 1,
     };
-    let seq = plain.len().wrapping_add(if draws.below(6) == 0 { 2 } else { 1 });
-    let author = if draws.below(16) == 0 { 1 } else { u64::from(party) };
+    let seq = plain
+        .len()
+        .wrapping_add(if draws.below(6) == 0 { 2 } else { 1 });
+    let author = if draws.below(16) == 0 {
+        1
+    } else {
+        u64::from(party)
+    };
     let ever = (rows.len() as u64)
         .wrapping_add(u64::from(before == 0))
         .wrapping_add(u64::from(draws.below(12) == 0));
@@ -71,8 +80,16 @@ fn draft(draws: &mut Draws, plain: &Plain, party: u8) -> Result<[u64; 4], Memory
 
 // Any step, mostly at the last node and the party's next one.
 fn single(draws: &mut Draws, last: u32, own: u32) -> Step {
-    let node = if draws.below(2) == 0 { last } else { draws.small(10) };
-    let to = if draws.below(2) == 0 { own } else { draws.small(10) };
+    let node = if draws.below(2) == 0 {
+        last
+    } else {
+        draws.small(10)
+    };
+    let to = if draws.below(2) == 0 {
+        own
+    } else {
+        draws.small(10)
+    };
     match draws.below(12) {
         0 => Step::LoadTail,
         1 | 2 => Step::LoadLink { node },
@@ -94,7 +111,11 @@ fn turn(draws: &mut Draws, plain: &Plain, party: u8) -> Result<[Step; 4], Memory
     Ok(match draws.below(3) {
         0 => {
             let words = draft(draws, plain, party)?;
-            let node = if draws.below(8) == 0 { draws.small(9) } else { own };
+            let node = if draws.below(8) == 0 {
+                draws.small(9)
+            } else {
+                own
+            };
             stores(node, words)
         }
         1 => {

@@ -174,12 +174,7 @@ impl Plain {
 
     // Whether the words are an entry of the party that may come next behind a place. Tuples are not judged here: all
     // that are drawn are good.
-    fn may_follow(
-        &self,
-        party: u64,
-        place: u64,
-        words: [u64; 4],
-    ) -> Result<bool, Memory> {
+    fn may_follow(&self, party: u64, place: u64, words: [u64; 4]) -> Result<bool, Memory> {
         let [numbers, counts, before, after] = words;
         let (order, row) = (numbers % 0x1_0000_0000, numbers / 0x1_0000_0000);
         let seq = counts % 0x80_0000;
@@ -196,18 +191,13 @@ impl Plain {
             Some(r) => before != 0 && r.tuple == before && r.order == order && r.line == line,
             None => false,
         };
-        let is_new =
-            before == 0 && after != 0 && row == count && count < self.row_limit && is_free;
+        let is_new = before == 0 && after != 0 && row == count && count < self.row_limit && is_free;
         let ever_then = if is_new { count.wrapping_add(1) } else { count };
         let is_next = seq == place.wrapping_add(1) && ever == ever_then && author == party;
         Ok(order != 0 && line != 0 && is_next && (is_there || is_new))
     }
 
-    pub fn step(
-        &mut self,
-        party: u8,
-        step: &Step,
-    ) -> Result<Option<Seen>, Memory> {
+    pub fn step(&mut self, party: u8, step: &Step) -> Result<Option<Seen>, Memory> {
         let at = usize::from(party);
         let Some(known) = self.parties.get(at) else {
             return Ok(None);
@@ -284,7 +274,10 @@ impl Plain {
                 let Some(place) = self.place(from) else {
                     return Ok(None);
                 };
-                if to == 0 || self.node(from).link != to || place > known.reached || place >= known.seen
+                if to == 0
+                    || self.node(from).link != to
+                    || place > known.reached
+                    || place >= known.seen
                 {
                     return Ok(None);
                 }

@@ -9,6 +9,7 @@ const FIRST: [u64; 4] = [
     92_624_370_551_265_711,
     92_625_470_062_893_487,
 ];
+
 const OTHER: [u64; 4] = [
     4_294_967_297,
     2_814_749_792_272_386,
@@ -18,14 +19,23 @@ const OTHER: [u64; 4] = [
 // Key 9.1 inserted by author 0, first in a log, in row 3.
 const NEW: [u64; 4] = [12_884_901_897, 281_475_010_265_089, 0, 1_099_511_627_779];
 // Key 1.1 back to quantity 17, second in a log.
-const BACK: [u64; 4] = [1, 281_475_001_876_482, 92_625_470_062_893_487, 92_624_370_551_265_711];
+const BACK: [u64; 4] = [
+    1,
+    281_475_001_876_482,
+    92_625_470_062_893_487,
+    92_624_370_551_265_711,
+];
 
 const AUTHOR: u64 = 0x8_0000_0000_0000;
+
 const ROWS: u64 = 0x80_0000;
 
 const NONE: Option<Seen> = None;
+
 const DONE: Option<Seen> = Some(Seen::Done);
+
 const YES: Option<Seen> = Some(Seen::Swapped(true));
+
 const NO: Option<Seen> = Some(Seen::Swapped(false));
 
 fn value(x: u64) -> Option<Seen> {
@@ -170,12 +180,35 @@ fn steps_after_a_link(rt: HostRuntime) -> Result<(), Fail> {
     let (join, lost) = (Step::Join { note: 1 }, Step::SwapLink { node: 0, to: 3 });
     let node = Step::LoadPayload { node: 1, word: 0 };
     for (at, (log_limit, steps)) in [
-        (16, [(0, store(1, 0), NONE), (0, store(2, 0), DONE), (0, store(3, 0), NONE)]),
-        (16, [(1, link_1, NONE), (1, link_0, value(1)), (1, link_1, value(0))]),
-        (16, [(1, tail_1, NONE), (1, link_0, value(1)), (1, tail_1, YES)]),
+        (
+            16,
+            [
+                (0, store(1, 0), NONE),
+                (0, store(2, 0), DONE),
+                (0, store(3, 0), NONE),
+            ],
+        ),
+        (
+            16,
+            [
+                (1, link_1, NONE),
+                (1, link_0, value(1)),
+                (1, link_1, value(0)),
+            ],
+        ),
+        (
+            16,
+            [(1, tail_1, NONE), (1, link_0, value(1)), (1, tail_1, YES)],
+        ),
         (16, [(0, tail_2, NONE), (0, tail_1, YES), (0, tail_1, NO)]),
-        (16, [(1, join, NONE), (0, Step::Note, DONE), (1, join, DONE)]),
-        (16, [(1, node, NONE), (1, link_0, value(1)), (1, node, value(1))]),
+        (
+            16,
+            [(1, join, NONE), (0, Step::Note, DONE), (1, join, DONE)],
+        ),
+        (
+            16,
+            [(1, node, NONE), (1, link_0, value(1)), (1, node, value(1))],
+        ),
         (16, [(1, lost, NONE), (1, link_1, NONE), (1, lost, NONE)]),
     ]
     .into_iter()
@@ -205,7 +238,11 @@ fn a_second_link(rt: HostRuntime) -> Result<(), Fail> {
         if moves {
             assert_eq!(rt; core.step(0, &Step::SwapTail { from: 0, to: 1 }).ok(), YES);
         }
-        assert_eq!(rt; proposes(&mut core, 0, BACK, 1, 2), seen, "{moves}, {log_limit}");
+        assert_eq!(rt;
+            proposes(&mut core, 0, BACK, 1, 2),
+            seen,
+            "{moves}, {log_limit}"
+        );
     }
     Ok(())
 }
