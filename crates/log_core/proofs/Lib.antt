@@ -1,3 +1,4 @@
+pub mod Alone
 pub mod Bounds
 pub mod Ends
 pub mod Entries

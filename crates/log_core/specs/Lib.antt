@@ -3,5 +3,6 @@ pub mod Core
 pub mod EntryWords
 pub mod Growing
 pub mod HeldCore
+pub mod Run
 pub mod Steps
 pub mod Terms

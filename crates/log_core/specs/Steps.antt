@@ -141,6 +141,10 @@ pub record TakesStep (core : CoreValue) (p : ℕ) (step : Step) (seen : Seen) (n
   pub party : p < length core.parties
   pub gives : Gives core p step seen next
 
+-- some answer and core are those of the step
+abbrev pub IsLawfulStep : CoreValue → ℕ → Step → Type 0
+IsLawfulStep core p step = (seen : Seen) × (next : CoreValue) × TakesStep core p step seen next
+
 -- no answer and no core are those of a lawful step
 abbrev pub IsUnlawful : CoreValue → ℕ → Step → Type 0
 IsUnlawful core p step = (seen : Seen) (next : CoreValue) → TakesStep core p step seen next → ⊥

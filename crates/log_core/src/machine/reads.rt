@@ -1,7 +1,7 @@
 //! What a core holds.
 ghost use Rattle.std.specs.Prelude.{◌≡◌, ℕ, ◌+◌, ◌*◌, ◌≤◌, ◌<◌, length, slice_index, IfSome, IfNone, IsTrue, ◌↔◌};
 ghost use Rattle.log_core.specs.Terms.{first_node};
-ghost use Rattle.log_core.specs.Chain.{tail, IsNodeAt, delta_count, end_at};
+ghost use Rattle.log_core.specs.Chain.{tail, node_at, IsNodeAt, delta_count, entry_count, end_at};
 ghost use Rattle.log_core.specs.Core.{party as party_of};
 ghost use Rattle.log_core.specs.Steps.{IsNextNode, MayRead, tail_end};
 
@@ -42,10 +42,17 @@ impl Core {
         self.words[at]
     }
 
-    pub(super) fn tail(&self) -> u32
+    pub(crate) fn tail(&self) -> u32
         ensures { result ≡ tail self.now.words }
     {
         self.words[0] as u32
+    }
+
+    /// The last node of the chain.
+    pub(crate) fn last(&self) -> u32
+        ensures { result ≡ node_at self.now.chain (entry_count self.now.chain.history) }
+    {
+        self.nodes[self.deltas.len()]
     }
 
     /// The end of the node in this place.
