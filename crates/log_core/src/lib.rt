@@ -14,7 +14,8 @@
 //!   (`ComesTo`). It takes no memory. `Core::is_sound`: a core is sound wherever it is lent or given back (`IsSound`).
 //!   So each schedule of any number of parties, stopped anywhere, leaves a sound log.
 //! - `laws`: each lawful step leaves a sound core, has one answer, and lets the chain grow at its end alone; the words
-//!   decide the chain; the tail is late by one node at most; the words of an entry tell it.
+//!   decide the chain; the tail is late by one node at most; the words of an entry tell it. `laws::front_alone`: one
+//!   party alone takes the front of all that is there in three steps, whatever the others left half done.
 //!
 //! # Only tested
 //!

@@ -9,7 +9,7 @@ use super::Core;
 use crate::Party;
 
 impl Core {
-    pub(super) fn party_count(&self) -> usize
+    pub(crate) fn party_count(&self) -> usize
         ensures { result ≡ length self.now.parties }
     {
         self.parties.len()

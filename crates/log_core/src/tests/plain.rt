@@ -3,13 +3,13 @@ use crate::{Memory, Seen, Step};
 use std::alloc::Global;
 
 #[derive(Clone, Copy, Drop)]
-pub struct Node {
+pub(super) struct Node {
     pub words: [u64; 4],
     pub link: u64,
 }
 
 #[derive(Clone, Copy, Drop)]
-pub struct Known {
+pub(super) struct Known {
     pub first: u64,
     pub share: u64,
     pub used: u64,
@@ -19,14 +19,14 @@ pub struct Known {
 
 // A row: its key as order and line, and the word of its tuple.
 #[derive(Clone, Copy, Drop)]
-pub struct Row {
+pub(super) struct Row {
     pub order: u64,
     pub line: u64,
     pub tuple: u64,
 }
 
 #[derive(Drop)]
-pub struct Plain {
+pub(super) struct Plain {
     pub rows: Vec<Row>,
     pub nodes: Vec<Node>,
     pub parties: Vec<Known>,
@@ -41,7 +41,7 @@ fn most(a: u64, b: u64) -> u64 {
 }
 
 impl Plain {
-    pub fn make(
+    pub(super) fn make(
         alloc: Global,
         tuples: &[u64],
         shares: &[u64],
@@ -111,7 +111,7 @@ impl Plain {
         None
     }
 
-    pub fn len(&self) -> u64 {
+    pub(super) fn len(&self) -> u64 {
         let mut at = 0;
         for place in 0..self.nodes.len() as u64 {
             at = self.node(at).link;
@@ -123,7 +123,7 @@ impl Plain {
     }
 
     // The last node, and the one that a party uses next.
-    pub fn last(&self) -> u32 {
+    pub(super) fn last(&self) -> u32 {
         let mut at = 0;
         for _node in 0..self.nodes.len() {
             let link = self.node(at).link;
@@ -135,11 +135,11 @@ impl Plain {
         (at % 1_000) as u32
     }
 
-    pub fn tail(&self) -> u32 {
+    pub(super) fn tail(&self) -> u32 {
         (self.tail % 1_000) as u32
     }
 
-    pub fn own(&self, party: u8) -> u32 {
+    pub(super) fn own(&self, party: u8) -> u32 {
         match self.parties.get(usize::from(party)) {
             Some(known) => (known.first.wrapping_add(known.used) % 1_000) as u32,
             None => 0,
@@ -168,7 +168,7 @@ impl Plain {
         Ok(rows)
     }
 
-    pub fn rows_now(&self) -> Result<Vec<Row>, Memory> {
+    pub(super) fn rows_now(&self) -> Result<Vec<Row>, Memory> {
         self.rows_behind(self.len())
     }
 
@@ -197,113 +197,121 @@ impl Plain {
         Ok(order != 0 && line != 0 && is_next && (is_there || is_new))
     }
 
-    pub fn step(&mut self, party: u8, step: &Step) -> Result<Option<Seen>, Memory> {
+    // The place of a node that the party has seen.
+    fn near(&self, known: &Known, node: u64) -> Option<u64> {
+        match self.place(node) {
+            Some(place) if place <= known.seen => Some(place),
+            _ => None,
+        }
+    }
+
+    fn store(&mut self, known: &Known, node: u64, word: u8, value: u64) -> Option<Seen> {
+        let own = known.first.wrapping_add(known.used);
+        if known.used >= known.share || node != own || word > 3 {
+            return None;
+        }
+        if let Some(node) = self.nodes.get_mut(own as usize) {
+            if let Some(old) = node.words.get_mut(usize::from(word)) {
+                *old = value;
+            }
+        }
+        Some(Seen::Done)
+    }
+
+    fn load(&self, known: &mut Known, node: u64, word: Option<u8>) -> Option<Seen> {
+        let place = self.near(known, node)?;
+        let Node { words, link } = self.node(node);
+        if let Some(word) = word {
+            return match words.get(usize::from(word)) {
+                Some(value) => Some(Seen::Value(*value)),
+                None => None,
+            };
+        }
+        if link != 0 {
+            known.seen = most(known.seen, place.wrapping_add(1));
+        }
+        Some(Seen::Value(link))
+    }
+
+    fn swap_link(
+        &mut self,
+        party: u64,
+        known: &mut Known,
+        node: u64,
+        to: u64,
+    ) -> Result<Option<Seen>, Memory> {
+        let Some(place) = self.near(known, node) else {
+            return Ok(None);
+        };
+        let own = known.first.wrapping_add(known.used);
+        let is_own = known.used < known.share && to == own;
+        let may = self.may_follow(party, place, self.node(own).words)?;
+        if place > known.reached || !is_own || place >= self.log_limit || !may {
+            return Ok(None);
+        }
+        known.seen = most(known.seen, place.wrapping_add(1));
+        let is_last = self.node(node).link == 0;
+        if is_last {
+            known.used = known.used.wrapping_add(1);
+            if let Some(node) = self.nodes.get_mut(node as usize) {
+                node.link = own;
+            }
+        }
+        Ok(Some(Seen::Swapped(is_last)))
+    }
+
+    fn swap_tail(&mut self, known: &mut Known, from: u64, to: u64) -> Option<Seen> {
+        let place = self.place(from)?;
+        if to == 0 || self.node(from).link != to || place > known.reached || place >= known.seen {
+            return None;
+        }
+        known.reached = most(known.reached, place.wrapping_add(1));
+        let is_tail = self.tail == from;
+        if is_tail {
+            self.tail = to;
+        }
+        Some(Seen::Swapped(is_tail))
+    }
+
+    fn take(&mut self, party: u64, known: &mut Known, step: &Step) -> Result<Option<Seen>, Memory> {
+        Ok(match *step {
+            Step::Store { node, word, value } => self.store(known, u64::from(node), word, value),
+            Step::LoadTail => {
+                let place = self.place(self.tail).unwrap_or(0);
+                known.seen = most(known.seen, place);
+                known.reached = most(known.reached, place);
+                Some(Seen::Value(self.tail))
+            }
+            Step::LoadLink { node } => self.load(known, u64::from(node), None),
+            Step::LoadPayload { node, word } => self.load(known, u64::from(node), Some(word)),
+            Step::SwapLink { node, to } => {
+                self.swap_link(party, known, u64::from(node), u64::from(to))?
+            }
+            Step::SwapTail { from, to } => self.swap_tail(known, u64::from(from), u64::from(to)),
+            Step::Note => {
+                self.noted = most(self.noted, known.seen);
+                Some(Seen::Done)
+            }
+            Step::Join { note } if u64::from(note) > self.noted => None,
+            Step::Join { note } => {
+                known.seen = most(known.seen, u64::from(note));
+                Some(Seen::Done)
+            }
+        })
+    }
+
+    pub(super) fn step(&mut self, party: u8, step: &Step) -> Result<Option<Seen>, Memory> {
         let at = usize::from(party);
         let Some(known) = self.parties.get(at) else {
             return Ok(None);
         };
         let mut known = *known;
-        let own = known.first.wrapping_add(known.used);
-        let seen = match *step {
-            Step::Store { node, word, value } => {
-                if known.used >= known.share || u64::from(node) != own || word > 3 {
-                    return Ok(None);
-                }
-                if let Some(node) = self.nodes.get_mut(own as usize) {
-                    if let Some(old) = node.words.get_mut(usize::from(word)) {
-                        *old = value;
-                    }
-                }
-                Seen::Done
+        let seen = self.take(u64::from(party), &mut known, step)?;
+        if seen.is_some() {
+            if let Some(old) = self.parties.get_mut(at) {
+                *old = known;
             }
-            Step::LoadTail => {
-                let place = self.place(self.tail).unwrap_or(0);
-                known.seen = most(known.seen, place);
-                known.reached = most(known.reached, place);
-                Seen::Value(self.tail)
-            }
-            Step::LoadLink { node } => {
-                let node = u64::from(node);
-                let Some(place) = self.place(node) else {
-                    return Ok(None);
-                };
-                if place > known.seen {
-                    return Ok(None);
-                }
-                let link = self.node(node).link;
-                if link != 0 {
-                    known.seen = most(known.seen, place.wrapping_add(1));
-                }
-                Seen::Value(link)
-            }
-            Step::LoadPayload { node, word } => {
-                let node = u64::from(node);
-                let Some(place) = self.place(node) else {
-                    return Ok(None);
-                };
-                let words = self.node(node).words;
-                match words.get(usize::from(word)) {
-                    Some(value) if place <= known.seen => Seen::Value(*value),
-                    _ => return Ok(None),
-                }
-            }
-            Step::SwapLink { node, to } => {
-                let node = u64::from(node);
-                let Some(place) = self.place(node) else {
-                    return Ok(None);
-                };
-                let is_near = place <= known.seen && place <= known.reached;
-                let is_own = known.used < known.share && u64::from(to) == own;
-                let words = self.node(own).words;
-                let may = self.may_follow(u64::from(party), place, words)?;
-                if !is_near || !is_own || place >= self.log_limit || !may {
-                    return Ok(None);
-                }
-                known.seen = most(known.seen, place.wrapping_add(1));
-                let is_last = self.node(node).link == 0;
-                if is_last {
-                    if let Some(node) = self.nodes.get_mut(node as usize) {
-                        node.link = own;
-                    }
-                    known.used = known.used.wrapping_add(1);
-                }
-                Seen::Swapped(is_last)
-            }
-            Step::SwapTail { from, to } => {
-                let (from, to) = (u64::from(from), u64::from(to));
-                let Some(place) = self.place(from) else {
-                    return Ok(None);
-                };
-                if to == 0
-                    || self.node(from).link != to
-                    || place > known.reached
-                    || place >= known.seen
-                {
-                    return Ok(None);
-                }
-                known.reached = most(known.reached, place.wrapping_add(1));
-                let is_tail = self.tail == from;
-                if is_tail {
-                    self.tail = to;
-                }
-                Seen::Swapped(is_tail)
-            }
-            Step::Note => {
-                self.noted = most(self.noted, known.seen);
-                Seen::Done
-            }
-            Step::Join { note } => {
-                let note = u64::from(note);
-                if note > self.noted {
-                    return Ok(None);
-                }
-                known.seen = most(known.seen, note);
-                Seen::Done
-            }
-        };
-        if let Some(old) = self.parties.get_mut(at) {
-            *old = known;
         }
-        Ok(Some(seen))
+        Ok(seen)
     }
 }

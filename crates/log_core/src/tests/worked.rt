@@ -1,4 +1,5 @@
 use super::{core, stores};
+use crate::laws::front_alone;
 use crate::{Core, Seen, Step};
 use std::test::Fail;
 
@@ -243,6 +244,26 @@ fn a_second_link(rt: HostRuntime) -> Result<(), Fail> {
             seen,
             "{moves}, {log_limit}"
         );
+    }
+    Ok(())
+}
+
+// A party alone takes the front of all that is there.
+#[test]
+fn a_front_taken_alone(rt: HostRuntime) -> Result<(), Fail> {
+    let mut core = core(rt.alloc(), &[2, 1], 16, 16)?;
+    for (party, links, node, counts) in [
+        (1, false, 0, 0),
+        (1, true, 1, FIRST[1]),
+        (0, false, 1, FIRST[1]),
+    ] {
+        if links {
+            assert_eq!(rt; proposes(&mut core, 0, FIRST, 0, 1), YES);
+        }
+        assert!(rt; usize::from(party) < core.party_count());
+        let seen = front_alone(&mut core, party);
+        let expected = [Seen::Value(0), Seen::Value(node), Seen::Value(counts)];
+        assert_eq!(rt; seen, expected, "of {party}");
     }
     Ok(())
 }
