@@ -31,7 +31,8 @@ module _ (c : CoreValue) (s : IsSound c) (p : ℕ) (inp : p < length c.parties) 
 
   link-party : party after_link p ≡ sees (party after_tail p) (end_at c.chain.history (place + 1))
   link-party =
-      get_or-set_same after_tail.parties p (sees (party after_tail p) (end_at c.chain.history (place + 1))) newcomer inp'
+      get_or-set_same after_tail.parties p (sees (party after_tail p) (end_at c.chain.history (place + 1))) newcomer
+      inp'
 
   tail-seen : (party after_tail p).seen ≡ max (party c p).seen (tail_end c)
   tail-seen = ap (λ (x : Party). x.seen) tail-party
@@ -47,7 +48,9 @@ module _ (c : CoreValue) (s : IsSound c) (p : ℕ) (inp : p < length c.parties) 
       omega (arith, ap (λ (x : Party). x.seen) link-party, tail-seen, end)
 
   tail-at : IsNodeAt c.chain (tail c.words) place
-  tail-at = let count = s.linked.count in let within = s.tail.within in record { within = omega arith; is = sym s.tail.is }
+  tail-at =
+      let count = s.linked.count in let within = s.tail.within in
+      record { within = omega arith; is = sym s.tail.is }
 
   may-link : MayRead after_tail p (tail c.words) place
   may-link = record {
@@ -78,7 +81,11 @@ module _ (c : CoreValue) (s : IsSound c) (p : ℕ) (inp : p < length c.parties) 
     Value (payload c.words n 1),
     after_link,
     record {
-      party = omega (arith, inp', length-set after_tail.parties p (sees (party after_tail p) (end_at c.chain.history (place + 1))));
+      party = omega (
+        arith,
+        inp',
+        length-set after_tail.parties p (sees (party after_tail p) (end_at c.chain.history (place + 1))),
+      );
       gives = (
         length c.chain.history,
         record {

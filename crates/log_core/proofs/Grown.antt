@@ -65,7 +65,8 @@ takes-grows core next p step seen s takes = grows-gives core next p step seen s 
 
 -- the node behind one of the chain, by its link
 behind-at : (c : CoreValue) → IsSound c → (n k : ℕ) → IsNodeAt c.chain n k →
-    (j : ℕ) × IsNodeAt c.chain (behind n (link c.words n)) j × (end_at c.chain.history j ≡ end_at c.chain.history (k + 1))
+    (j : ℕ) × IsNodeAt c.chain (behind n (link c.words n)) j
+    × (end_at c.chain.history j ≡ end_at c.chain.history (k + 1))
 behind-at c s n k at = dite (ℕ_discrete (link c.words n) 0)
     (λ e.
     let last = empty-last c.terms c.words c.chain s.linked s.filled n k at e in (

@@ -15,7 +15,8 @@ module _ (t : CoreTerms) where
   abbrev words : ℕ
   words = 5 * node_count t + 1
 
-  next : (k : ℕ) → k < 1 → link (made_core t).words (node_at (made_core t).chain k) ≡ node_at (made_core t).chain (k + 1)
+  next : (k : ℕ) → k < 1 →
+      link (made_core t).words (node_at (made_core t).chain k) ≡ node_at (made_core t).chain (k + 1)
   next zero lt = same-all words (5 * 0 + 5) 0
   next (suc k) lt = absurd (omega arith)
 

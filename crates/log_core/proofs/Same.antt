@@ -49,7 +49,8 @@ module _ (t : CoreTerms) (ws : List ℕ) where
     same-length = let x = no-longer a b la fa lb fb in let y = no-longer b a lb fb la fa in omega arith
 
     pub same-nodes : a.nodes ≡ b.nodes
-    same-nodes = ext_get_or 0 a.nodes b.nodes same-length (λ k lt. same-node a b la lb k lt (omega (arith, same-length)))
+    same-nodes =
+        ext_get_or 0 a.nodes b.nodes same-length (λ k lt. same-node a b la lb k lt (omega (arith, same-length)))
 
     pub same-history : a.history ≡ b.history
     same-history =
@@ -66,8 +67,10 @@ module _ (t : CoreTerms) (ws : List ℕ) where
 pub same-chain : TellsTuple → (a b : CoreValue) → IsSound a → IsSound b → a.terms ≡ b.terms → a.words ≡ b.words →
     a.chain ≡ b.chain
 same-chain tells a b sa sb terms words =
-    let la = subst (λ t. IsLinked t b.words a.chain) terms (subst (λ ws. IsLinked a.terms ws a.chain) words sa.linked) in
-    let fa = subst (λ t. IsFilled t b.words a.chain) terms (subst (λ ws. IsFilled a.terms ws a.chain) words sa.filled) in
+    let la = subst (λ t. IsLinked t b.words a.chain) terms
+    (subst (λ ws. IsLinked a.terms ws a.chain) words sa.linked) in
+    let fa = subst (λ t. IsFilled t b.words a.chain) terms
+    (subst (λ ws. IsFilled a.terms ws a.chain) words sa.filled) in
     let nodes = same-nodes b.terms b.words tells a.chain b.chain la fa sb.linked sb.filled in
     let history = same-history b.terms b.words tells a.chain b.chain la fa sb.linked sb.filled in
     let ca = la.count in let cb = sb.linked.count in

@@ -1,5 +1,5 @@
 //! The core of a log that several parties share: its words, as a value without threads, and what one atomic step of
-//! one party may do to them. After the queue of Michael and Scott: a chain of nodes with a tail that may be late by one.
+//! one party may do to them. It is a queue after Michael and Scott, a chain of nodes whose tail may be late by one.
 //!
 //! Node 0 is the head, and each party has a share of the nodes behind it. A node has four payload words, which hold an
 //! entry, and a link. A party stores an entry in its next node, links that behind the last node, and moves the tail on.
@@ -23,8 +23,8 @@
 //!
 //! # Not said
 //!
-//! Anything of threads: this is a model of one log. How long a step takes: a lawful exchange of a link looks at each row
-//! over the deltas before it.
+//! Anything of threads: this is a model of one log. How long a step takes: an exchange of a link that inserts a key
+//! looks at each row, and for each at all deltas before it.
 //!
 //! # Example
 //!
