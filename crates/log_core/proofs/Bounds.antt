@@ -1,0 +1,37 @@
+-- Which numbers of a sound core are small, and which of its words are there.
+use Rattle.std.proofs.Common.{◌≡◌, ℕ, ◌+◌, ◌*◌, ◌<◌, ◌≤◌, length, sym, subst, arith}
+use Rattle.std.specs.List.{sum}
+use Rattle.std.proofs.lemmas.List.Sums.{sum_by-take-le}
+use Rattle.log_core.specs.Terms.{CoreTerms, share, first_node, node_count, AreTerms}
+use Rattle.log_core.specs.Chain.{tail, node_at, IsNodeAt}
+use Rattle.log_core.specs.Core.{CoreValue, party, IsSound}
+use Rattle.log_core.specs.Steps.{IsNextNode}
+use Rattle.log_core.proofs.Nodes.{node-small, node-inside}
+use Rattle.log_core.proofs.Looks.{keeps-shares}
+
+pub first_node-small : (t : CoreTerms) (p : ℕ) → AreTerms t → first_node t p ≤ 4_194_305
+first_node-small t p a = let n = a.nodes in omega (arith, sum_by-take-le (λ (x : ℕ). x) t.shares p)
+
+pub place-small : (c : CoreValue) → IsSound c → (k : ℕ) → k < length c.chain.nodes
+    → node_at c.chain k < node_count c.terms
+place-small c s k lt = node-small c.terms c.words c.chain s.linked s.filled (keeps-shares c s) k lt
+
+pub tail-small : (c : CoreValue) → IsSound c → tail c.words < node_count c.terms
+tail-small c s =
+    let count = s.linked.count in let within = s.tail.within in let is = s.tail.is in
+    let small = place-small c s c.chain.tail_place (omega arith) in
+    omega arith
+
+-- the words of a chain node, and those of a party's next one
+pub node-words : (c : CoreValue) (n k : ℕ) → IsSound c → IsNodeAt c.chain n k → 5 * n + 5 < length c.words
+node-words c n k s at =
+    let count = s.word_count in let is = at.is in
+    let small = place-small c s k at.within in
+    omega arith
+
+pub next-words : (c : CoreValue) (p n : ℕ) → IsSound c → p < length c.parties → IsNextNode c p n →
+    5 * n + 5 < length c.words
+next-words c p n s inp next =
+    let count = s.word_count in let parties = s.party_count in let is = next.is in
+    let small = node-inside c.terms p (party c p).used (omega arith) next.share in
+    omega arith

@@ -1,0 +1,13 @@
+pub mod Alone
+pub mod Bounds
+pub mod Ends
+pub mod Entries
+pub mod Keeping
+pub mod Grown
+pub mod Links
+pub mod Looks
+pub mod Made
+pub mod Nodes
+pub mod Same
+pub mod Stores
+pub mod Tables

@@ -1,0 +1,24 @@
+-- What the fields of a core stand for.
+use Rattle.std.specs.Prelude.{◌≤◌, ◌+◌, vec_capacity}
+use Rattle.log_core.specs.declared.machine.Core.TheInside.{Inside}
+use Rattle.log_core.specs.Terms.{CoreTerms, node_count, AreTerms}
+use Rattle.log_core.specs.Core.{CoreValue, IsSound}
+
+abbrev pub core_terms : Inside → CoreTerms
+core_terms c = record { base = c.base; shares = c.shares.items; limits = c.limits }
+
+abbrev pub core_value : Inside → CoreValue
+core_value c = record {
+  terms = core_terms c;
+  words = c.words.items;
+  chain = record { nodes = c.nodes.items; history = c.deltas.items; tail_place = c.tail_place };
+  parties = c.parties.items;
+  noted = c.noted;
+}
+
+-- it is sound, and has room for as many entries as its log limit allows
+pub record IsHeld (c : Inside) : Type 0 where
+  pub sound : IsSound (core_value c)
+  pub terms : AreTerms (core_terms c)
+  pub node_room : c.limits.log_limit + 1 ≤ vec_capacity c.nodes
+  pub delta_room : c.limits.log_limit ≤ vec_capacity c.deltas

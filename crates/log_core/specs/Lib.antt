@@ -1,0 +1,8 @@
+pub mod Chain
+pub mod Core
+pub mod EntryWords
+pub mod Growing
+pub mod HeldCore
+pub mod Run
+pub mod Steps
+pub mod Terms
