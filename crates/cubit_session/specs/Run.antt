@@ -1,12 +1,12 @@
 -- Runs: the replies and the one journal that scripts over a base table come to, whatever order their commands took.
 use Rattle.std.specs.Prelude.{◌≡◌, ℕ, ◌+◌, ◌≤◌, List, [], ◌∷◌, length, take, slice_get, map, flat_map, Option, Some, None}
-use Rattle.std.specs.List.{slice_index_or}
+use Rattle.std.specs.List.{AllZip, slice_index_or}
 use Rattle.cubit_base.specs.Table.{Row}
 use Rattle.cubit_base.specs.LiveRow.{live_row}
 use Rattle.cubit_base.specs.History.{after, IsHistory}
 use Rattle.cubit_base.specs.Answer.{answer}
 use Rattle.cubit_base.specs.Change.{Change, Outcome, outcome}
-use Rattle.cubit_base.specs.Change as change
+use Rattle.cubit_base.specs.Change as changes
 use Rattle.cubit_base.specs.declared.delta.Delta.{Delta}
 use Rattle.cubit_base.specs.declared.command.Command.{Command}
 use Rattle.cubit_base.specs.declared.command.Command.TheVariants.{Insert, Update, Delete, DropOrder, Lookup, Rows, Count, Sum, Q6, Merge}
@@ -37,7 +37,7 @@ outcome_at s journal author front change =
 pub record StandsAt (s : Setting) (journal : List Delta) (author : ℕ) (change : Change) (place row : ℕ) : Type 0 where
   pub delta : Delta
   pub stands : slice_get journal place ≡ Some delta
-  pub outcome_is : outcome_at s journal author place change ≡ change.Placed delta
+  pub outcome_is : outcome_at s journal author place change ≡ changes.Placed delta
   pub row_is : row ≡ delta.row
 
 -- the change was refused at this front
@@ -50,24 +50,24 @@ pub record IsRefusedAt (s : Setting) (journal : List Delta) (author : ℕ) (chan
 abbrev pub AnswersChange : Setting → List Delta → ℕ → Change → Reply → Type 0
 AnswersChange s journal author change (reply.Placed place row) = StandsAt s journal author change place row
 AnswersChange s journal author change (reply.Duplicate front row) =
-    IsRefusedAt s journal author change front (change.Duplicate row)
-AnswersChange s journal author change (reply.Missing front) = IsRefusedAt s journal author change front change.Missing
+    IsRefusedAt s journal author change front (changes.Duplicate row)
+AnswersChange s journal author change (reply.Missing front) = IsRefusedAt s journal author change front changes.Missing
 AnswersChange s journal author change (reply.TableFull front) =
-    IsRefusedAt s journal author change front change.TableFull
-AnswersChange s journal author change (reply.LogFull front) = IsRefusedAt s journal author change front change.LogFull
+    IsRefusedAt s journal author change front changes.TableFull
+AnswersChange s journal author change (reply.LogFull front) = IsRefusedAt s journal author change front changes.LogFull
 AnswersChange s journal author change reply = ⊥
 
 -- what became of a line of an order that is dropped: the reply to its delete, whose row is not told
 abbrev pub AnswersLine : Setting → List Delta → ℕ → Change → DropLine → Type 0
 AnswersLine s journal author change (line.Placed place) = (row : ℕ) × StandsAt s journal author change place row
-AnswersLine s journal author change (line.Missing front) = IsRefusedAt s journal author change front change.Missing
-AnswersLine s journal author change (line.LogFull front) = IsRefusedAt s journal author change front change.LogFull
+AnswersLine s journal author change (line.Missing front) = IsRefusedAt s journal author change front changes.Missing
+AnswersLine s journal author change (line.LogFull front) = IsRefusedAt s journal author change front changes.LogFull
 
 -- the lines of an order from this number on, up to line 7
 abbrev pub AnswersDrop : Setting → List Delta → ℕ → ℕ → ℕ → List DropLine → Type 0
 AnswersDrop s journal author order number [] = number ≡ 8
 AnswersDrop s journal author order number (told ∷ lines) =
-    AnswersLine s journal author (change.Delete (record { order = order; line = number })) told
+    AnswersLine s journal author (changes.Delete (record { order = order; line = number })) told
     × AnswersDrop s journal author order (number + 1) lines
 
 -- a query was answered at this front, to which units were brought by so many deltas
@@ -77,9 +77,9 @@ pub record IsAnsweredAt (journal : List Delta) (front patched : ℕ) : Type 0 wh
 
 -- the reply to a command
 abbrev pub Answers : Setting → List Delta → ℕ → Command → Reply → Type 0
-Answers s journal author (Insert key tuple) told = AnswersChange s journal author (change.Insert key tuple) told
-Answers s journal author (Update key tuple) told = AnswersChange s journal author (change.Update key tuple) told
-Answers s journal author (Delete key) told = AnswersChange s journal author (change.Delete key) told
+Answers s journal author (Insert key tuple) told = AnswersChange s journal author (changes.Insert key tuple) told
+Answers s journal author (Update key tuple) told = AnswersChange s journal author (changes.Update key tuple) told
+Answers s journal author (Delete key) told = AnswersChange s journal author (changes.Delete key) told
 Answers s journal author (DropOrder order) (reply.DropLines lines) = AnswersDrop s journal author order 1 lines
 Answers s journal author (Lookup key) (reply.Found front row tuple) =
     (front ≤ length journal) × (live_row (table_at s journal front) key ≡ Some (row, tuple))
@@ -97,13 +97,6 @@ Answers s journal author (Q6 p) (reply.Q6 front count sum patched) =
     × (sum ≡ (answer (table_at s journal front) p).sum)
 Answers s journal author Merge (reply.Merge merged fresh busy) = merged + fresh + busy ≡ s.units
 Answers s journal author command told = ⊥
-
--- each command of a worker has its reply, in order
-abbrev pub AnswersEach : Setting → List Delta → ℕ → List Command → List Reply → Type 0
-AnswersEach s journal author [] [] = Unit {0}
-AnswersEach s journal author (command ∷ commands) (told ∷ replies) =
-    Answers s journal author command told × AnswersEach s journal author commands replies
-AnswersEach s journal author commands replies = ⊥
 
 -- what a part of a reply was made at: no earlier mark of its worker is greater than `least`; and its own mark, the
 -- number of deltas that its worker knew of then
@@ -138,10 +131,10 @@ marks_of (reply.Sum front count sum patched) = mark_at front ∷ []
 marks_of (reply.Q6 front count sum patched) = mark_at front ∷ []
 marks_of (reply.Merge merged fresh busy) = []
 
--- the marks do not fall, beginning with what was known before
-abbrev pub NeverFall : ℕ → List Mark → Type 0
-NeverFall known [] = Unit {0}
-NeverFall known (next ∷ marks) = (known ≤ next.least) × NeverFall next.mark marks
+-- the marks do not fall, from what was known before up to a last one
+abbrev pub NeverFall : ℕ → List Mark → ℕ → Type 0
+NeverFall known [] last = known ≤ last
+NeverFall known (next ∷ marks) last = (known ≤ next.least) × NeverFall next.mark marks last
 
 -- the places of the changes that a reply tells of
 abbrev pub line_places : DropLine → List ℕ
@@ -158,8 +151,8 @@ places_of told = []
 -- of the journal's entries with its number, in order
 pub record IsPart (s : Setting) (journal : List Delta) (worker : ℕ) (commands : List Command) (replies : List Reply)
     : Type 0 where
-  pub answers : AnswersEach s journal worker commands replies
-  pub marks : NeverFall 0 (flat_map marks_of replies)
+  pub answers : AllZip (Answers s journal worker) commands replies
+  pub marks : NeverFall 0 (flat_map marks_of replies) (length journal)
   pub places : flat_map places_of replies ≡ places_by worker journal
 
 -- a run of scripts, one a worker: the journal is a history over the base within the limits, and each worker has its

@@ -1,15 +1,16 @@
 -- What a worker's command comes to.
-use Rattle.std.specs.Prelude.{◌≡◌, ℕ, ◌+◌, ◌≤◌, List, [], ◌∷◌, Option, Some, None, Result, Ok, Err}
+use Rattle.std.specs.Prelude.{◌≡◌, ℕ, ◌+◌, List, [], ◌∷◌, ◌++◌, length, Option, Some, None, Result, Ok, Err}
 use Rattle.std.specs.declared.alloc.AllocError.{AllocError as Memory}
 use Rattle.cubit_base.specs.Key.{KeyValue}
 use Rattle.cubit_base.specs.Tuple.{TupleValue}
 use Rattle.cubit_base.specs.Change.{Change, key_of}
-use Rattle.cubit_base.specs.Change as change
+use Rattle.cubit_base.specs.Change as changes
 use Rattle.cubit_base.specs.declared.command.Command.{Command}
 use Rattle.cubit_base.specs.declared.command.Command.TheVariants.{Insert, Update, Delete, DropOrder, Lookup, Rows, Count, Sum, Q6, Merge}
 use Rattle.commit_log.specs.Log.{Terms}
-use Rattle.commit_log.specs.Handle.{Handle, SeesMore, ReadsOn, with_look}
+use Rattle.commit_log.specs.Handle.{Handle, Grows, SeesMore, ReadsOn, with_look, mine}
 use Rattle.commit_log.specs.declared.front.Front.{Front}
+use Rattle.unit_version.specs.Unit.{unit_count}
 use Rattle.version_store.specs.Store.{Store, Asks}
 use Rattle.table_ops.specs.Found.{IsFound, page_of}
 use Rattle.table_ops.specs.Changed.{IsChanged}
@@ -27,6 +28,7 @@ use Rattle.query_report.specs.declared.reply.DropLine.{DropLine}
 use Rattle.query_report.specs.declared.reply.DropLine.TheVariants as line
 use Rattle.query_report.specs.declared.reply.Reply.{Reply}
 use Rattle.query_report.specs.declared.reply.Reply.TheVariants as reply
+use Rattle.cubit_session.specs.Run.{Setting, Mark, NeverFall}
 
 -- what a worker's handles of the log and of the store tell
 pub record Told : Type 0 where
@@ -66,11 +68,11 @@ RepliesToChange terms change before after reply =
 abbrev pub DropsLine : Terms → ℕ → ℕ → Told → Told → DropLine → Type 0
 DropsLine terms order number before after told =
     (result : Result Placed OpStop) × TellsLine result told
-    × Changes terms (change.Delete (record { order = order; line = number })) before after result
+    × Changes terms (changes.Delete (record { order = order; line = number })) before after result
 
--- lines of an order from this one on were deleted, one after another
+-- lines of an order from this one on, up to line 7, were deleted, one after another
 abbrev pub Drops : Terms → ℕ → ℕ → Told → Told → List DropLine → Type 0
-Drops terms order number before after [] = after ≡ before
+Drops terms order number before after [] = (number ≡ 8) × (after ≡ before)
 Drops terms order number before after (told ∷ lines) =
     (between : Told) × DropsLine terms order number before between told
     × Drops terms order (number + 1) between after lines
@@ -96,11 +98,11 @@ pub record Reads (before after : Told) : Type 0 where
 -- what a command's reply tells of the call that made it
 abbrev pub Replies : Terms → ℕ → Command → Told → Told → Reply → Type 0
 Replies terms tries (Insert key tuple) before after reply =
-    RepliesToChange terms (change.Insert key tuple) before after reply
+    RepliesToChange terms (changes.Insert key tuple) before after reply
 Replies terms tries (Update key tuple) before after reply =
-    RepliesToChange terms (change.Update key tuple) before after reply
+    RepliesToChange terms (changes.Update key tuple) before after reply
 Replies terms tries (Delete key) before after reply =
-    RepliesToChange terms (change.Delete key) before after reply
+    RepliesToChange terms (changes.Delete key) before after reply
 Replies terms tries (DropOrder order) before after told =
     (lines : List DropLine) × (told ≡ reply.DropLines lines) × Drops terms order 1 before after lines
 Replies terms tries (Lookup key) before after reply = LooksUp terms key before after reply
@@ -135,7 +137,18 @@ abbrev pub IsStep : Terms → ℕ → Command → Told → Told → Result Reply
 IsStep terms tries command before after (Ok reply) = Replies terms tries command before after reply
 IsStep terms tries command before after (Err memory) = RunsOut command before after
 
--- an order that is dropped is a number from 1 on
-abbrev pub HasOrder : Command → Type 0
-HasOrder (DropOrder order) = 1 ≤ order
-HasOrder command = Unit {0}
+-- how a step of a log with these terms, and of an index with so many pages, reads as a part of a run
+abbrev pub setting_of : Terms → ℕ → Setting
+setting_of terms pages = record {
+  base = terms.base;
+  row_limit = terms.limits.row_limit;
+  log_limit = terms.limits.log_limit;
+  units = unit_count pages;
+}
+
+-- the handle of the log after a part of a reply with these marks and places: it knows no less, its marks do not fall,
+-- and its own deltas are these more
+pub record AddsTo (before after : Handle) (marks : List Mark) (places : List ℕ) : Type 0 where
+  pub grows : Grows before after
+  pub never_fall : NeverFall (length before.seen) marks (length after.seen)
+  pub places_are : mine after ≡ mine before ++ places

@@ -2,8 +2,9 @@
 ghost use Rattle.std.specs.Prelude.{◌≡◌, ◌+◌, ◌≤◌, ◌<◌};
 ghost use Rattle.cubit_base.specs.Command.{weight_of};
 ghost use Rattle.cubit_base.specs.declared.command.Command.TheVariants.{DropOrder};
+ghost use Rattle.refresh_streams.specs.Script.{DropsSomeOrder};
 ghost use Rattle.version_store.specs.Store.{IsStanding};
-ghost use Rattle.cubit_session.specs.Step.{IsStep, Replies, HasOrder, DropsLine, change_reply, found_reply, told_by};
+ghost use Rattle.cubit_session.specs.Step.{IsStep, Replies, DropsLine, change_reply, found_reply, told_by};
 
 use commit_log::{CommitLog, Front};
 use cubit_base::{Command, Key, Memory, Steps, Tuple};
@@ -55,7 +56,7 @@ impl<S: VersionStore> Worker<S> {
         requires standing { IsStanding S.Log.terms (S.store self.old.1) base.now (S.over self.old.1 self.old.0) }
         requires tries { 1 ≤ tries }
         requires spare { weight_of command.now ≤ (S.Log.handle self.old.0).spare }
-        requires order { HasOrder command.now }
+        requires order { DropsSomeOrder command.now }
         ensures steps { IsStep S.Log.terms tries command.now (told_by S.Log.handle S.store self.old)
             (told_by S.Log.handle S.store self.new) result }
         ensures standing { IsStanding S.Log.terms (S.store self.new.1) base.now (S.over self.new.1 self.new.0) }
@@ -82,7 +83,7 @@ impl<S: VersionStore> Worker<S> {
         requires standing { IsStanding S.Log.terms (S.store self.old.1) base.now (S.over self.old.1 self.old.0) }
         requires tries { 1 ≤ tries }
         requires spare { weight_of command.now ≤ (S.Log.handle self.old.0).spare }
-        requires order { HasOrder command.now }
+        requires order { DropsSomeOrder command.now }
         ensures steps { IsStep S.Log.terms tries command.now (told_by S.Log.handle S.store self.old)
             (told_by S.Log.handle S.store self.new) result }
         ensures standing { IsStanding S.Log.terms (S.store self.new.1) base.now (S.over self.new.1 self.new.0) }

@@ -66,7 +66,8 @@ fn quantity(rows: &Rows, qty: u8) -> Option<Delta>
 
 // Row 0 gets the first quantities of these, one after another.
 fn quantities(alloc: Global, rows: &mut Rows, count: u32) -> Result<DeltaList, Memory>
-    requires { length rows.old.items ≤ 3 }
+    requires rows { length rows.old.items ≤ 3 }
+    requires count { count ≤ 2 }
     ensures lawful { IfOk result (λ deltas. IsHistory 16_777_216 rows.old.items deltas) }
     ensures then { IfOk result (λ deltas. rows.new.items ≡ after rows.old.items deltas) }
 {
@@ -98,7 +99,10 @@ fn follow_quantities<N: Ledger, R: Abort + AllocGlobal>(
     let table = three_lines(alloc)?;
     let mut rows = rows_of(alloc, &table)?;
     let deltas = quantities(alloc, &mut rows, count)?;
-    assert_eq!(rt; (deltas.len(), rows.len()), (count, 3));
+    assert_eq!(rt; deltas.len(), count);
+    if rows.len() != 3 {
+        panic!(rt; "{} rows", rows.len());
+    }
     let base = Base::build(alloc, table, 3)?;
     let then = Base::build(alloc, table_from(alloc, &rows)?, 3)?;
     assert_eq!(rt; (base.units(), then.units()), (216, 216));
@@ -110,7 +114,7 @@ fn follow_quantities<N: Ledger, R: Abort + AllocGlobal>(
     if qty == 17 {
         let before = rows_of(alloc, &three_lines(alloc)?)?;
         for n in 0..3 {
-            assert_eq!(rt; rows[n], before[n], "row {n} is as it was");
+            assert_eq!(rt; rows.get(n), before.get(n), "row {n} is as it was");
         }
     }
     Ok(())

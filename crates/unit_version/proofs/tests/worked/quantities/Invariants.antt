@@ -1,6 +1,6 @@
 use Rattle.std.proofs.Common.{◌≡◌, ◌+◌, ◌≤◌, length}
 use Rattle.cubit_base.specs.History.{after, IsHistory}
-use Rattle.unit_version.proofs.tests.story.worked.quantities.Given as goal
+use Rattle.unit_version.proofs.tests.worked.quantities.Given as goal
 
 abbrev pub invariant-loop-n : goal.invariant-loop-n
 invariant-loop-n l = record {
