@@ -46,12 +46,13 @@ change_reply (Err (stop.Missing front)) = reply.Missing front.len
 change_reply (Err (stop.TableFull front)) = reply.TableFull front.len
 change_reply (Err (stop.LogFull front)) = reply.LogFull front.len
 
--- the same for the delete of a line of an order that is dropped
-abbrev pub TellsLine : Result Placed OpStop → DropLine → Type 0
-TellsLine (Ok placed) (line.Placed place) = place ≡ placed.place
-TellsLine (Err (stop.Missing front)) (line.Missing len) = len ≡ front.len
-TellsLine (Err (stop.LogFull front)) (line.LogFull len) = len ≡ front.len
-TellsLine result told = ⊥
+-- the same for the delete of a line of an order that is dropped; it meets no live key, and no full table
+abbrev pub line_reply : Result Placed OpStop → Option DropLine
+line_reply (Ok placed) = Some (line.Placed placed.place)
+line_reply (Err (stop.Duplicate front row)) = None
+line_reply (Err (stop.Missing front)) = Some (line.Missing front.len)
+line_reply (Err (stop.TableFull front)) = None
+line_reply (Err (stop.LogFull front)) = Some (line.LogFull front.len)
 
 -- a change was made or stopped, and its key's page was asked for
 pub record Changes (terms : Terms) (change : Change) (before after : Told) (result : Result Placed OpStop)
@@ -67,7 +68,7 @@ RepliesToChange terms change before after reply =
 -- a line of an order was deleted, or not
 abbrev pub DropsLine : Terms → ℕ → ℕ → Told → Told → DropLine → Type 0
 DropsLine terms order number before after told =
-    (result : Result Placed OpStop) × TellsLine result told
+    (result : Result Placed OpStop) × (line_reply result ≡ Some told)
     × Changes terms (changes.Delete (record { order = order; line = number })) before after result
 
 -- lines of an order from this one on, up to line 7, were deleted, one after another
