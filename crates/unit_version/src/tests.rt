@@ -5,6 +5,7 @@ ghost use Rattle.cubit_base.specs.LiveRow.{HasDistinctLiveKeys};
 mod carry;
 mod histories;
 mod story;
+mod worked;
 
 use super::*;
 use column_bins::{Column, bin_of};

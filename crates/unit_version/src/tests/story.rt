@@ -141,7 +141,7 @@ fn bins_follow<N: Ledger, R: Abort + AllocGlobal>(
 }
 
 // Each unit.
-fn all_follow<N: Ledger, R: Abort + AllocGlobal>(
+pub(super) fn all_follow<N: Ledger, R: Abort + AllocGlobal>(
     rt: &R,
     base: &Base,
     deltas: &DeltaList,

@@ -1,0 +1,8 @@
+use Rattle.cubit_session.proofs.Replying.{answers-command, adds-command}
+use Rattle.cubit_session.proofs.laws.steps.Goals as goal
+
+pub returns-clause-answers : goal.returns-clause-answers
+returns-clause-answers c = answers-command
+
+pub returns-clause-adds : goal.returns-clause-adds
+returns-clause-adds c = adds-command
