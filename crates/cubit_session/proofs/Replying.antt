@@ -84,9 +84,11 @@ answers-line : (terms : Terms) (pages order number : ℕ) (before now : Told) (t
     AnswersLine (setting_of terms pages) now.log.seen before.log.author (changes.Delete (line_key order number)) told
 answers-line terms pages order number before now told (Ok placed, is, made) =
     subst (AnswersLine (setting_of terms pages) now.log.seen before.log.author
-    (changes.Delete (line_key order number))) (some-same (line.Placed placed.place) told is)
-    (placed.row, stands-placed terms pages before.log now.log (changes.Delete (line_key order number)) placed
-    made.changed)
+    (changes.Delete (line_key order number))) (some-same (line.Placed placed.place) told is) (
+      placed.row,
+      stands-placed terms pages before.log now.log (changes.Delete (line_key order number)) placed
+          made.changed,
+    )
 answers-line terms pages order number before now told (Err (stop.Duplicate front row), is, made) =
     absurd (none-some told is)
 answers-line terms pages order number before now told (Err (stop.Missing front), is, made) =
@@ -169,30 +171,33 @@ answers-found : (terms : Terms) (pages : ℕ) (key : KeyValue) (before now : Tol
     Answers (setting_of terms pages) now.log.seen before.log.author (Lookup key) told
 answers-found terms pages key before now told looks =
     by looks.found looks.reply_is looks.is_found.whole.whole looks.is_found.live where
-    by : (found : Front × Option (ℕ × TupleValue)) → told ≡ found_reply found → found.0.len ≡ length now.log.seen →
-        live_row (after terms.base now.log.seen) key ≡ found.1 →
-        Answers (setting_of terms pages) now.log.seen before.log.author (Lookup key) told
-    by (front, None) is whole live =
-        subst (Answers (setting_of terms pages) now.log.seen before.log.author (Lookup key)) (sym is)
-        (omega (arith, whole),
-        ap (λ table. live_row table key) (at-whole terms pages now.log.seen front.len whole) ∙ live)
-    by (front, Some (row, tuple)) is whole live =
-        subst (Answers (setting_of terms pages) now.log.seen before.log.author (Lookup key)) (sym is)
-        (omega (arith, whole),
-        ap (λ table. live_row table key) (at-whole terms pages now.log.seen front.len whole) ∙ live)
+      by : (found : Front × Option (ℕ × TupleValue)) → told ≡ found_reply found → found.0.len ≡ length now.log.seen →
+          live_row (after terms.base now.log.seen) key ≡ found.1 →
+          Answers (setting_of terms pages) now.log.seen before.log.author (Lookup key) told
+      by (front, None) is whole live =
+          subst (Answers (setting_of terms pages) now.log.seen before.log.author (Lookup key)) (sym is) (
+            omega (arith, whole),
+            ap (λ table. live_row table key) (at-whole terms pages now.log.seen front.len whole) ∙ live,
+          )
+      by (front, Some (row, tuple)) is whole live =
+          subst (Answers (setting_of terms pages) now.log.seen before.log.author (Lookup key)) (sym is) (
+            omega (arith, whole),
+            ap (λ table. live_row table key) (at-whole terms pages now.log.seen front.len whole) ∙ live,
+          )
 
 adds-found : (terms : Terms) (key : KeyValue) (before now : Told) (told : Reply) → LooksUp terms key before now told →
     Adds before now told
 adds-found terms key before now told looks =
     by looks.found looks.reply_is looks.is_found.whole.whole where
-    grows : Grows before.log now.log
-    grows = record { begins = looks.more.begins; author = ap (λ (h : Handle). h.author) looks.more.is }
-    by : (found : Front × Option (ℕ × TupleValue)) → told ≡ found_reply found → found.0.len ≡ length now.log.seen →
-        Adds before now told
-    by (front, None) is whole =
-        subst (Adds before now) (sym is) (adds-front before.log now.log front.len grows looks.more.mine whole)
-    by (front, Some (row, tuple)) is whole =
-        subst (Adds before now) (sym is) (adds-front before.log now.log front.len grows looks.more.mine whole)
+      grows : Grows before.log now.log
+      grows = record { begins = looks.more.begins; author = ap (λ (h : Handle). h.author) looks.more.is }
+
+      by : (found : Front × Option (ℕ × TupleValue)) → told ≡ found_reply found → found.0.len ≡ length now.log.seen →
+          Adds before now told
+      by (front, None) is whole =
+          subst (Adds before now) (sym is) (adds-front before.log now.log front.len grows looks.more.mine whole)
+      by (front, Some (row, tuple)) is whole =
+          subst (Adds before now) (sym is) (adds-front before.log now.log front.len grows looks.more.mine whole)
 
 -- queries
 module _ (terms : Terms) (pages tries : ℕ) (p : Predicate) (sum : Bool) (before now : Told) (front : Front)
@@ -223,25 +228,31 @@ answers-command terms tries (DropOrder order) before now told (lines, is, drops)
 answers-command terms tries (Lookup key) before now told is =
     answers-found terms before.store.pages key before now told is
 answers-command terms tries (Rows p) before now told (a, is, reads, (list, answered)) =
-    subst (Answers (setting_of terms before.store.pages) now.log.seen before.log.author (Rows p)) (sym is)
-    (at terms before.store.pages tries p false before now a.front a.patched reads answered,
-    list ∙ sym (ap (λ (x : Answer). x.rows)
-    (same terms before.store.pages tries p false before now a.front a.patched reads answered)))
+    subst (Answers (setting_of terms before.store.pages) now.log.seen before.log.author (Rows p)) (sym is) (
+      at terms before.store.pages tries p false before now a.front a.patched reads answered,
+      list ∙ sym (ap (λ (x : Answer). x.rows)
+          (same terms before.store.pages tries p false before now a.front a.patched reads answered)),
+    )
 answers-command terms tries (Count p) before now told (a, is, reads, (count, answered)) =
-    subst (Answers (setting_of terms before.store.pages) now.log.seen before.log.author (Count p)) (sym is)
-    (at terms before.store.pages tries p false before now a.front a.patched reads answered,
-    count ∙ sym (ap (λ (x : Answer). x.count)
-    (same terms before.store.pages tries p false before now a.front a.patched reads answered)))
+    subst (Answers (setting_of terms before.store.pages) now.log.seen before.log.author (Count p)) (sym is) (
+      at terms before.store.pages tries p false before now a.front a.patched reads answered,
+      count ∙ sym (ap (λ (x : Answer). x.count)
+          (same terms before.store.pages tries p false before now a.front a.patched reads answered)),
+    )
 answers-command terms tries (Sum p) before now told (a, is, reads, (count, sum, answered)) =
     let alike = same terms before.store.pages tries p true before now a.front a.patched reads answered in
-    subst (Answers (setting_of terms before.store.pages) now.log.seen before.log.author (Sum p)) (sym is)
-    (at terms before.store.pages tries p true before now a.front a.patched reads answered,
-    count ∙ sym (ap (λ (x : Answer). x.count) alike), sum ∙ sym (ap (λ (x : Answer). x.sum) alike))
+    subst (Answers (setting_of terms before.store.pages) now.log.seen before.log.author (Sum p)) (sym is) (
+      at terms before.store.pages tries p true before now a.front a.patched reads answered,
+      count ∙ sym (ap (λ (x : Answer). x.count) alike),
+      sum ∙ sym (ap (λ (x : Answer). x.sum) alike),
+    )
 answers-command terms tries (Q6 p) before now told (a, is, reads, (count, sum, answered)) =
     let alike = same terms before.store.pages tries p true before now a.front a.patched reads answered in
-    subst (Answers (setting_of terms before.store.pages) now.log.seen before.log.author (Q6 p)) (sym is)
-    (at terms before.store.pages tries p true before now a.front a.patched reads answered,
-    count ∙ sym (ap (λ (x : Answer). x.count) alike), sum ∙ sym (ap (λ (x : Answer). x.sum) alike))
+    subst (Answers (setting_of terms before.store.pages) now.log.seen before.log.author (Q6 p)) (sym is) (
+      at terms before.store.pages tries p true before now a.front a.patched reads answered,
+      count ∙ sym (ap (λ (x : Answer). x.count) alike),
+      sum ∙ sym (ap (λ (x : Answer). x.sum) alike),
+    )
 answers-command terms tries Merge before now told (count, is, reads, merged) =
     subst (Answers (setting_of terms before.store.pages) now.log.seen before.log.author Merge) (sym is) merged.sum
 
