@@ -75,7 +75,9 @@ fn sum_of(script: &Script) -> u64 {
 fn number_of(command: &Command) -> u64 {
     match command {
         Command::Insert(key, tuple) => number_of_key(key).wrapping_add(tuple.pack()),
-        Command::Update(key, tuple) => number_of_key(key).wrapping_add(tuple.pack()).wrapping_add(1),
+        Command::Update(key, tuple) => number_of_key(key)
+            .wrapping_add(tuple.pack())
+            .wrapping_add(1),
         Command::Delete(key) => number_of_key(key).wrapping_add(2),
         Command::DropOrder(order) => u64::from(*order),
         Command::Lookup(key) => number_of_key(key).wrapping_add(3),
