@@ -9,7 +9,9 @@ use std::alloc::Global;
 pub(crate) const MOST: u32 = 4_000_000;
 
 const WORKERS: u32 = 4;
+
 const ROWS: u32 = 6_000_000;
+
 const FRONTS: u32 = 4_194_304;
 
 /// A linear congruential generator.
