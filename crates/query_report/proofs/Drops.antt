@@ -1,5 +1,5 @@
 -- The reading of what became of an order's lines.
-use Rattle.std.proofs.Common.{◌≡◌, ℕ, ◌+◌, ◌<◌, ◌∙◌, ◌==◌, Bool, true, false, true≢false, cond, List, [], ◌∷◌, ◌++◌, length, count_by, codes, Some, None, refl, sym, ap, arith}
+use Rattle.std.proofs.Common.{◌≡◌, ℕ, ◌+◌, ◌<◌, ◌∙◌, ◌==◌, Bool, true, false, true≢false, cond, List, [], ◌∷◌, ◌++◌, length, count_by, codes, None, refl, sym, ap, arith}
 use Rattle.std.proofs.lemmas.Bool.Decides.{Decides-eqb}
 use Rattle.std.proofs.lemmas.List.{nil_from_length}
 use Rattle.std.proofs.lemmas.List.Sums.{count_by-le-length}
@@ -21,14 +21,16 @@ pub drop-reads : {before mid now after : Left} {deleted : ℕ} {lines : List Dro
     → count ≡ count_by is_deleted lines → after ≡ cond (deleted == count) now None
     → Reads drop_reply IsDrop EndsNumber before lines after
 unfolding each_text
-drop-reads {before = before} {now = now} {after = after} {deleted = deleted} {lines = lines} count head seven counts is =
+drop-reads {before = before} {now = now} {after = after} {deleted = deleted}
+    {lines = lines} count head seven counts is =
     by (deleted == count_by is_deleted lines) refl (is ∙ ap (λ count. cond (deleted == count) now None) counts)
   where
     raw : Reads (λ (p : ℕ × List DropLine). field (codes "drop deleted=") p.0 ++ drops_text 49 p.1)
         (λ p. IsNumber p.0 × IsDrop p.1) EndsNumber before (deleted, lines) now
     raw = reads-and head seven next
       where
-        next : (lines : List DropLine) (rest : List ℕ) → IsDrop lines → EndsNumber rest → EndsNumber (drops_text 49 lines ++ rest)
+        next : (lines : List DropLine) (rest : List ℕ) → IsDrop lines → EndsNumber rest → EndsNumber
+            (drops_text 49 lines ++ rest)
         next [] rest fits ends = absurd (omega (arith, fits.0))
         next (line ∷ lines) rest fits ends = refl
 
@@ -40,7 +42,8 @@ drop-reads {before = before} {now = now} {after = after} {deleted = deleted} {li
     by true same is =
         let count = (Decides-eqb deleted (count_by is_deleted lines)).0 same in
         reads-is _ _ _ (reads-as drop_reply IsDrop lines (λ lines. (count_by is_deleted lines, lines)) raw
-        (λ rest e. ap (λ n. field (codes "drop deleted=") n ++ drops_text 49 lines) (sym count)) fit (λ lines fits. refl)
+        (λ rest e. ap (λ n. field (codes "drop deleted=") n ++ drops_text 49 lines) (sym count)) fit
+        (λ lines fits. refl)
         (λ lines fits e. ap (λ p. p.1) e)) refl refl (sym is)
     by false same is =
         reads-not drop_reply IsDrop lines after (λ lines. (count_by is_deleted lines, lines)) raw is fit

@@ -1,5 +1,5 @@
 -- The forms of replies, told apart by their first two bytes.
-use Rattle.std.proofs.Common.{◌≡◌, ℕ, ◌∙◌, List, [], ◌∷◌, ◌++◌, Some, refl, sym, ap, subst}
+use Rattle.std.proofs.Common.{◌≡◌, ℕ, ◌∙◌, List, ◌∷◌, ◌++◌, Some, refl, sym, ap, subst}
 use Rattle.cubit_base.specs.Tuple.{TupleValue}
 use Rattle.query_report.specs.declared.reader.reply.Form.{Form}
 use Rattle.query_report.specs.declared.reader.reply.Form.TheVariants as form

@@ -1,5 +1,5 @@
 -- What a reader finds at the front of a text.
-use Rattle.std.proofs.Common.{◌≡◌, ◌≢◌, ℕ, zero, suc, ◌+◌, ◌*◌, ◌<◌, ◌≤◌, ◌^◌, ◌∙◌, Bool, true, false, cond, List, [], ◌∷◌, ◌++◌, length, take, drop, get_or, decimal, Some, None, refl, sym, ap, append_assoc, arith, rules}
+use Rattle.std.proofs.Common.{◌≡◌, ◌≢◌, ℕ, zero, suc, ◌+◌, ◌<◌, ◌∙◌, Bool, true, false, cond, List, [], ◌∷◌, ◌++◌, length, take, drop, decimal, Some, None, refl, sym, ap, arith, rules}
 use Rattle.std.specs.List.{list_all, prefix_len}
 use Rattle.std.proofs.lemmas.Bool.{and_parts}
 use Rattle.std.proofs.lemmas.Fmt.{digits_decimal, digits_value-decimal, decimal-digits_value, length-decimal-le, decimal_nonempty, decimal_digit, first_decimal}
@@ -29,7 +29,8 @@ passes-some label bytes rest false is = record {
 }
 passes-some label bytes rest true is = record {
   sound = λ more e. cc;
-  finds = λ more _ e. ap Some (sym (front_rest bytes label rest is) ∙ front_rest bytes label more (same bytes (label ++ more) e));
+  finds = λ more _ e. ap Some (sym (front_rest bytes label rest is) ∙ front_rest bytes label more (same bytes
+      (label ++ more) e));
 }
 
 -- a reader fails where it does not
@@ -98,7 +99,8 @@ front bytes rest n small stop is =
 -- a number is read where its digits stand
 pub number-some : (bytes : List ℕ) (fine : Bool) → IsNumeral (digits_of bytes)
     → spelled (digits_of bytes) < 10_000_000_000_000_000
-    → Reads decimal (λ n. n < 10_000_000_000_000_000) EndsNumber (left_of fine bytes) (spelled (digits_of bytes)) (left_of fine (behind bytes))
+    → Reads decimal (λ n. n < 10_000_000_000_000_000) EndsNumber (left_of fine bytes) (spelled (digits_of bytes))
+    (left_of fine (behind bytes))
 number-some bytes false is small = record {
   sound = λ rest e. absurd cc;
   finds = λ other rest fits stop e. absurd cc;

@@ -1,5 +1,5 @@
 -- A tuple or none, told apart by the first byte.
-use Rattle.std.proofs.Common.{◌≡◌, ◌≢◌, ℕ, ◌+◌, ◌<◌, ◌≤◌, ◌∙◌, ◌==◌, true, false, true≢false, List, [], ◌∷◌, ◌++◌, length, Option, Some, None, decimal, refl, sym, ap, append_assoc, arith, leb, leb-true, ne_eqb}
+use Rattle.std.proofs.Common.{◌≡◌, ℕ, ◌<◌, ◌∙◌, true, false, true≢false, List, [], ◌∷◌, ◌++◌, length, Option, Some, None, decimal, refl, sym, ap, append_assoc, arith, leb, leb-true, ne_eqb}
 use Rattle.std.specs.List.{list_all}
 use Rattle.std.proofs.lemmas.Bool.{and_parts}
 use Rattle.std.proofs.lemmas.Bool.Decides.{Decides-eqb}
@@ -32,7 +32,8 @@ tuple_begins t rest is =
     (decimal_nonempty t.qty (omega (arith, is.qty_high)))
 
 pub held-none : {before after : Left} {b : ℕ} → begins 45 before ≡ true
-    → Reads (λ (b : ℕ). b ∷ []) (λ b. Unit {0}) Anything before b after → Reads held_text IsHeld Anything before None after
+    → Reads (λ (b : ℕ). b ∷ []) (λ b. Unit {0}) Anything before b after
+    → Reads held_text IsHeld Anything before None after
 held-none {before = before} {after = after} {b = b} at byte = record {
   sound = λ rest e.
       let there = byte.sound rest e in

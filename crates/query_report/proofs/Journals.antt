@@ -1,5 +1,5 @@
 -- The reading of a journal.
-use Rattle.std.proofs.Common.{◌≡◌, ℕ, ◌+◌, ◌∙◌, List, [], ◌++◌, length, codes, Some, refl, sym, ap, arith}
+use Rattle.std.proofs.Common.{◌≡◌, ℕ, ◌∙◌, List, ◌++◌, length, codes, Some, refl, ap, arith}
 use Rattle.std.proofs.lemmas.List.{length-append, nil_from_length}
 use Rattle.std.specs.List.{AllByRecursion}
 use Rattle.cubit_base.specs.declared.delta.Delta.{Delta}
@@ -13,7 +13,8 @@ use Rattle.query_report.proofs.Reading.{ReadsSome, reads-given, reads-as, reads-
 pub journal-reads : {before mid now : Left} {count : ℕ} {deltas : List Delta}
     → Reads (λ n. field (codes "journal ") n ++ codes "\n") IsNumber Anything before count mid
     → ReadsSome delta_line IsDelta (λ deltas. length deltas ≡ count) Anything 0 mid deltas now
-    → ((rest : List ℕ) → now ≡ Some rest → length deltas ≡ count) → Reads journal_bytes IsJournal Anything before deltas now
+    → ((rest : List ℕ) → now ≡ Some rest → length deltas ≡ count)
+    → Reads journal_bytes IsJournal Anything before deltas now
 journal-reads {count = count} {deltas = deltas} head some all =
     let whole = reads-whole some (λ left rest is ends e.
     nil_from_length left (omega (arith, is, all _ e, length-append deltas left))) in

@@ -1,15 +1,11 @@
 -- Texts that are read one piece behind another.
-use Rattle.std.proofs.Common.{◌≡◌, ◌≢◌, ◌⊎◌, inl, inr, ℕ, zero, suc, ◌+◌, ◌<◌, ◌≤◌, ◌∙◌, List, [], ◌∷◌, ◌++◌, length, Some, None, decimal, refl, sym, ap, subst, append_assoc, arith}
+use Rattle.std.proofs.Common.{◌≡◌, ◌⊎◌, inl, inr, ℕ, suc, ◌+◌, ◌<◌, ◌∙◌, List, [], ◌∷◌, ◌++◌, length, Some, None, decimal, refl, sym, ap, subst, append_assoc, arith}
 use Rattle.std.proofs.lemmas.List.{append-nil, length_push}
 use Rattle.std.specs.List.{AllByRecursion}
 use Rattle.query_report.specs.Field.{field, each_text}
 use Rattle.query_report.specs.Reading.{Left, Reads, Passes, Anything, EndsNumber, IsLabel}
 
--- a label may follow a number
-pub label-ends : (label rest : List ℕ) → IsLabel label → EndsNumber (label ++ rest)
-label-ends [] rest is = absurd is
-label-ends (b ∷ label) rest is = is
-
+-- a field may follow a number
 pub field-ends : (label : List ℕ) (n : ℕ) (rest : List ℕ) → IsLabel label → EndsNumber (field label n ++ rest)
 unfolding field
 field-ends [] n rest is = absurd is
@@ -155,7 +151,8 @@ field-reads {label = label} {n = n} fits one two few =
 
 -- the items of a list that are read so far: their texts stood before what is left now, and any list whose texts stood
 -- there goes on behind them
-pub record ReadsSome {X : Type 0} (text : ℕ → X → List ℕ) (fits : X → Type 0) (whole : List X → Type 0) (follows : List ℕ → Type 0) (first : ℕ) (before : Left) (items : List X) (now : Left) : Type 0 where
+pub record ReadsSome {X : Type 0} (text : ℕ → X → List ℕ) (fits : X → Type 0) (whole : List X → Type 0)
+    (follows : List ℕ → Type 0) (first : ℕ) (before : Left) (items : List X) (now : Left) : Type 0 where
   pub sound : (rest : List ℕ) → now ≡ Some rest → before ≡ Some (each_text text first items ++ rest)
   pub finds : (other : List X) (rest : List ℕ) → whole other → AllByRecursion fits other → follows rest
       → before ≡ Some (each_text text first other ++ rest)
@@ -196,16 +193,18 @@ pub reads-more : {X : Type 0} {text : ℕ → X → List ℕ} {fits : X → Type
     → ((rest : List ℕ) → whole items → follows rest → mid ≡ Some rest → ⊥)
     → ReadsSome text fits whole follows first before all after
 unfolding each_text
-reads-more {X = X} {text = text} {fits = fits} {whole = whole} {follows = follows} {first = first} {n = n} {mid = mid} {after = after} {items = items} {all = all} {x = x} some one count pushed next goes = record {
-  sound = λ rest e.
-      some.sound (text n x ++ rest) (one.sound rest e)
-      ∙ ap Some (sym (append_assoc (each_text text first items) (text n x) rest)
-      ∙ ap (λ more. more ++ rest) (ap (λ n. each_text text first items ++ text n x) count
-      ∙ sym (each_text-more text first items x) ∙ ap (each_text text first) (sym pushed)));
-  finds = λ other rest is fit ends e.
-      let found = some.finds other rest is fit ends e in
-      by found.0 other rest found.1 found.2 (found.3 ∙ ap (λ n. Some (each_text text n found.0 ++ rest)) (sym count)) is ends;
-}
+reads-more {X = X} {text = text} {fits = fits} {whole = whole} {follows = follows} {first = first} {n = n}
+    {mid = mid} {after = after} {items = items} {all = all} {x = x} some one count pushed next goes = record {
+      sound = λ rest e.
+          some.sound (text n x ++ rest) (one.sound rest e)
+          ∙ ap Some (sym (append_assoc (each_text text first items) (text n x) rest)
+          ∙ ap (λ more. more ++ rest) (ap (λ n. each_text text first items ++ text n x) count
+          ∙ sym (each_text-more text first items x) ∙ ap (each_text text first) (sym pushed)));
+      finds = λ other rest is fit ends e.
+          let found = some.finds other rest is fit ends e in
+          by found.0 other rest found.1 found.2 (found.3 ∙ ap (λ n. Some (each_text text n found.0 ++ rest))
+          (sym count)) is ends;
+    }
   where
     by : (left other : List X) (rest : List ℕ) → other ≡ items ++ left → AllByRecursion fits left
         → mid ≡ Some (each_text text n left ++ rest) → whole other → follows rest

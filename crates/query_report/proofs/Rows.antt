@@ -1,5 +1,5 @@
 -- The reading of a list of numbers.
-use Rattle.std.proofs.Common.{◌≡◌, ℕ, zero, suc, ◌+◌, ◌<◌, ◌∙◌, List, [], ◌∷◌, ◌++◌, length, drop, codes, Some, refl, sym, ap, append_assoc, arith}
+use Rattle.std.proofs.Common.{◌≡◌, ℕ, ◌+◌, ◌<◌, ◌∙◌, List, [], ◌∷◌, ◌++◌, length, drop, codes, Some, refl, sym, ap, append_assoc, arith}
 use Rattle.std.proofs.lemmas.List.{length-append, nil_from_length, drop-append-le}
 use Rattle.std.specs.List.{AllByRecursion}
 use Rattle.query_report.specs.Field.{field, two_fields, each_text}
@@ -51,8 +51,10 @@ parts (row ∷ rows) = (row, rows)
 
 pub list-some : {before mid now : Left} {first count : ℕ} {list : List ℕ} → 0 < count → list ≡ first ∷ drop 1 list
     → Reads (field (codes " list=")) IsNumber EndsNumber before first mid
-    → ReadsSome (λ place. field (codes ",")) IsNumber (λ rows. length rows + 1 ≡ count) EndsNumber 1 mid (drop 1 list) now
-    → ((rest : List ℕ) → now ≡ Some rest → length list ≡ count) → Reads list_text (IsList count) EndsNumber before list now
+    → ReadsSome (λ place. field (codes ",")) IsNumber (λ rows. length rows + 1 ≡ count) EndsNumber 1 mid
+    (drop 1 list) now
+    → ((rest : List ℕ) → now ≡ Some rest → length list ≡ count) → Reads list_text
+    (IsList count) EndsNumber before list now
 unfolding list_text parts
 list-some {first = first} {count = count} {list = list} some_of is head some all =
     let rows = drop 1 list in
@@ -88,12 +90,14 @@ flat p = (p.0.0, p.1.0, p.1.1)
 
 -- a front, a count, as many numbers, and how many deltas were looked at
 pub rows-read : {before mid behind after : Left} {front count patched : ℕ} {list : List ℕ}
-    → Reads (λ (n : ℕ × ℕ). two_fields (codes "rows front=") n.0 (codes " count=") n.1) (λ n. IsNumber n.0 × IsNumber n.1)
+    → Reads (λ (n : ℕ × ℕ). two_fields (codes "rows front=") n.0 (codes " count=") n.1)
+    (λ n. IsNumber n.0 × IsNumber n.1)
     EndsNumber before (front, count) mid
     → Reads list_text (IsList count) EndsNumber mid list behind
     → ((rest : List ℕ) → behind ≡ Some rest → length list ≡ count)
     → Reads (field (codes " patched=")) IsNumber EndsNumber behind patched after
-    → Reads (λ (rows : ℕ × List ℕ × ℕ). rows_reply rows.0 rows.1 rows.2) IsRows EndsNumber before (front, list, patched) after
+    → Reads (λ (rows : ℕ × List ℕ × ℕ). rows_reply rows.0 rows.1 rows.2) IsRows EndsNumber before
+    (front, list, patched) after
 unfolding flat
 rows-read {front = front} {count = count} {patched = patched} {list = list} head rows all last =
     let tail = reads-and rows last (λ n rest fit ends. field-ends (codes " patched=") n rest refl) in
@@ -102,6 +106,7 @@ rows-read {front = front} {count = count} {patched = patched} {list = list} head
     (λ p fits is. ((fits.1.0.0 ∙ ap (λ n. n.1) is, fits.1.0.1), fits.1.1))
     (λ p rest fits ends. rw append_assoc (list_ends p.1.0 (field (codes " patched=") p.1.1 ++ rest))) in
     reads-as _ _ _ (λ (rows : ℕ × List ℕ × ℕ). ((rows.0, length rows.1), (rows.1, rows.2))) raw
-    (λ rest e. ap (λ n. two_fields (codes "rows front=") front (codes " count=") n ++ (list_text list ++ field (codes " patched=") patched))
+    (λ rest e. ap (λ n. two_fields (codes "rows front=") front (codes " count=") n ++ (list_text list ++ field
+    (codes " patched=") patched))
     (all _ (last.sound rest e)))
     (λ rows fits. ((fits.0, fits.1), ((refl, fits.2), fits.3))) (λ rows fits. refl) (λ rows fits e. ap flat e)

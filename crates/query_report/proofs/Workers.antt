@@ -1,16 +1,14 @@
 -- The reading of the lines of workers.
-use Rattle.std.proofs.Common.{◌≡◌, ◌≢◌, ◌⊎◌, inl, inr, ℕ, zero, suc, ◌+◌, ◌-◌, ◌<◌, ◌≤◌, ◌∙◌, ◌==◌, true, false, true≢false, Bool, List, [], ◌∷◌, ◌++◌, length, get_or, codes, decimal, Some, None, refl, sym, ap, append_assoc, arith, ne_eqb}
+use Rattle.std.proofs.Common.{◌≡◌, inl, inr, ℕ, suc, ◌+◌, ◌-◌, ◌<◌, ◌≤◌, ◌∙◌, true, false, true≢false, List, [], ◌∷◌, ◌++◌, length, codes, decimal, Some, refl, sym, ap, append_assoc, arith, ne_eqb}
 use Rattle.std.proofs.lemmas.Bool.Decides.{Decides-eqb}
-use Rattle.std.proofs.lemmas.List.{length-append, nil_from_length, get_or-append-add}
-use Rattle.std.specs.List.{AllByRecursion}
 use Rattle.cubit_base.specs.declared.delta.Delta.{Delta}
 use Rattle.query_report.specs.declared.reply.Reply.{Reply}
 use Rattle.query_report.specs.Field.{field, two_fields, each_text}
 use Rattle.query_report.specs.Journal.{journal_bytes}
-use Rattle.query_report.specs.Reading.{Left, Reads, Passes, Anything, EndsNumber, EndsReplies, EndsWorker, IsAtWorker, IsNumber, begins}
+use Rattle.query_report.specs.Reading.{Left, Reads, Passes, Anything, EndsNumber, EndsReplies, EndsWorker, IsAtWorker, begins}
 use Rattle.query_report.specs.Reply.{reply_bytes, reply_line}
-use Rattle.query_report.specs.ReplyTable.{EndsInReply, replies_of}
-use Rattle.query_report.specs.Report.{IsReply, IsReplyList, IsReplyTable, IsJournal, IsReport, worker_lines, reply_lines, report_bytes}
+use Rattle.query_report.specs.ReplyTable.{EndsInReply}
+use Rattle.query_report.specs.Report.{IsReply, IsReplyTable, IsJournal, IsReport, worker_lines, reply_lines, report_bytes}
 use Rattle.query_report.proofs.Reading.{reads-and, passes-then, then-passes, reads-as}
 
 -- a line of a worker begins with its number
@@ -42,17 +40,20 @@ later_ends worker n ((reply ∷ replies) ∷ lists) rest later few ends =
 -- the line of a worker's reply with a number
 pub line-reads : {r s t u v w : Left} {reply : Reply} (worker number : ℕ)
     → Passes (field (codes "w") worker) EndsNumber r s → Passes (field (codes " ") number) EndsNumber s t
-    → Passes (codes " ") Anything t u → Reads reply_bytes IsReply EndsNumber u reply v → Passes (codes "\n") Anything v w
+    → Passes (codes " ") Anything t u → Reads reply_bytes IsReply EndsNumber u reply v → Passes
+    (codes "\n") Anything v w
     → Reads (reply_line worker number) IsReply Anything r reply w
 unfolding reply_line two_fields field
 line-reads {reply = reply} worker number one two three reads end =
     let raw = passes-then one (passes-then two (passes-then three (then-passes reads end (λ rest ends. refl))
     (λ x rest fit ends. tt)) (λ x rest fit ends. refl)) (λ x rest fit ends. refl) in
-    reads-as _ _ _ (λ (reply : Reply). reply) raw (λ rest e. text reply) (λ x fits. fits) (λ x fits. text x) (λ x fits e. e)
+    reads-as _ _ _ (λ (reply : Reply). reply) raw (λ rest e. text reply) (λ x fits. fits) (λ x fits. text x)
+    (λ x fits e. e)
   where
     text : (x : Reply) → reply_line worker number x
         ≡ field (codes "w") worker ++ (field (codes " ") number ++ (codes " " ++ (reply_bytes x ++ codes "\n")))
-    text x = append_assoc (field (codes "w") worker) (field (codes " ") number) (codes " " ++ (reply_bytes x ++ codes "\n"))
+    text x = append_assoc (field (codes "w") worker) (field (codes " ") number) (codes " " ++
+        (reply_bytes x ++ codes "\n"))
 
 -- a look at the front says where the lines of a worker end
 pub worker_done : (worker n : ℕ) (left : List Reply) (rest : List ℕ) (now : Left) → worker < 256
@@ -62,8 +63,10 @@ worker_done worker n [] rest now few look there = refl
 worker_done worker n (reply ∷ left) rest now few look there =
     let more = worker_lines worker (n + 1) left ++ rest in
     let line = line_begins worker n reply more in
-    let text = there ∙ ap Some (append_assoc (reply_line worker n reply) (worker_lines worker (n + 1) left) rest ∙ line.1) in
-    absurd (true≢false (sym (look.line worker (32 ∷ line.0) (omega arith) refl text ∙ (Decides-eqb worker worker).1 refl)))
+    let text = there ∙ ap Some (append_assoc (reply_line worker n reply) (worker_lines worker (n + 1) left) rest
+    ∙ line.1) in
+    absurd (true≢false (sym (look.line worker (32 ∷ line.0) (omega arith) refl text
+    ∙ (Decides-eqb worker worker).1 refl)))
 
 -- and where one stands
 pub worker_goes : (worker : ℕ) (rest : List ℕ) (now : Left) → IsAtWorker worker now true → EndsWorker worker rest

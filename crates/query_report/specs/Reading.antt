@@ -8,7 +8,8 @@ Left = Option (List ℕ)
 
 -- a value was read: its text stood before what is left now, and any fitting value whose text stood there, and behind it
 -- what may follow such a text, is this one
-pub record Reads {V : Type 0} (text : V → List ℕ) (fits : V → Type 0) (follows : List ℕ → Type 0) (before : Left) (value : V) (after : Left) : Type 0 where
+pub record Reads {V : Type 0} (text : V → List ℕ) (fits : V → Type 0) (follows : List ℕ → Type 0) (before : Left)
+    (value : V) (after : Left) : Type 0 where
   pub sound : (rest : List ℕ) → after ≡ Some rest → before ≡ Some (text value ++ rest)
   pub finds : (other : V) (rest : List ℕ) → fits other → follows rest → before ≡ Some (text other ++ rest)
       → (other ≡ value) × (after ≡ Some rest)

@@ -1,5 +1,5 @@
 -- The text of a reply, and of its line.
-use Rattle.std.specs.Prelude.{ℕ, ◌+◌, Bool, true, false, List, [], ◌∷◌, ◌++◌, length, count_by, codes}
+use Rattle.std.specs.Prelude.{ℕ, Bool, true, false, List, [], ◌∷◌, ◌++◌, length, count_by, codes}
 use Rattle.cubit_base.specs.Tuple.{TupleValue}
 use Rattle.query_report.specs.declared.reply.DropLine.{DropLine}
 use Rattle.query_report.specs.declared.reply.DropLine.TheVariants as of

@@ -1,6 +1,6 @@
 //! The texts of the program: replies and the journal of a run, which together are its report and are read again from
-//! it, the line of an answer, and what standard error is told. Each is fixed byte for byte, as docs/FORMATS.md gives it.
-//! `ReplyTable` keeps the replies of all workers.
+//! it, the line of an answer, and what standard error is told. Each is fixed byte for byte: docs/FORMATS.md. `ReplyTable`
+//! keeps the replies of all workers.
 //!
 //! # Proved
 //!

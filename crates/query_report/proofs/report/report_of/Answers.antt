@@ -1,4 +1,4 @@
-use Rattle.std.proofs.Common.{◌≡◌, ◌∙◌, ◌++◌, ℕ, List, [], Some, false, true, true≢false, refl, sym, ap, subst, rules}
+use Rattle.std.proofs.Common.{◌≡◌, ◌∙◌, ℕ, List, [], Some, true≢false, sym, ap, rules}
 use Rattle.std.proofs.lemmas.List.{append-nil}
 use Rattle.query_report.specs.Report.{report_bytes}
 use Rattle.query_report.proofs.Workers.{report-reads}

@@ -1,5 +1,5 @@
-use Rattle.std.proofs.Common.{◌≡◌, ℕ, refl, ap}
-use Rattle.query_report.proofs.Reading.{field-ends, reads-and, passes-then, reads-as}
+use Rattle.std.proofs.Common.{ℕ, refl, ap}
+use Rattle.query_report.proofs.Reading.{reads-and, passes-then, reads-as}
 use Rattle.query_report.proofs.reader.Reader.answer.Goals as goal
 
 flat : (ℕ × ℕ) × (ℕ × ℕ) → ℕ × ℕ × ℕ × ℕ

@@ -38,7 +38,8 @@ unfolding parts
 parts_are n century year month day within few is =
     let a : (century * 100 + year) / 100 ≡ century = omega arith in
     let b : (century * 100 + year) % 100 ≡ year = omega arith in
-    ap (λ d. (d.year / 100, (d.year % 100, (d.month, d.day)))) (date_at-value (century * 100 + year) month day n within is) ∙ rw (a, b) refl
+    ap (λ d. (d.year / 100, (d.year % 100, (d.month, d.day)))) (date_at-value
+    (century * 100 + year) month day n within is) ∙ rw (a, b) refl
 
 few : (n : ℕ) → n ≤ 2556 → ((date_at n).year / 100 < 100) × ((date_at n).year % 100 < 100) × ((date_at n).month < 100)
     × ((date_at n).day < 100)
@@ -59,7 +60,8 @@ returns-in-Some-clause-reads c =
     let day = c.pair-day.result in
     let n = c.in-Some.number in
     let raw = reads-and c.pair-century.ensures.reads (reads-and c.pair-year.ensures.reads
-    (passes-then c.label.ensures (reads-and c.pair-month.ensures.reads (passes-then c.label-2.ensures c.pair-day.ensures.reads
+    (passes-then c.label.ensures (reads-and c.pair-month.ensures.reads
+    (passes-then c.label-2.ensures c.pair-day.ensures.reads
     (λ n rest fit ends. tt)) (λ n rest fit ends. tt)) (λ n rest fit ends. tt))
     (λ n rest fit ends. tt)) (λ n rest fit ends. tt) in
     let is : day_value (century * 100 + year) month day ≡ Some n =
@@ -74,7 +76,8 @@ pub returns-in-None-clause-reads : goal.returns-in-None-clause-reads
 unfolding parts text_of
 returns-in-None-clause-reads c =
     let raw = reads-and c.pair-century.ensures.reads (reads-and c.pair-year.ensures.reads
-    (passes-then c.label.ensures (reads-and c.pair-month.ensures.reads (passes-then c.label-2.ensures c.pair-day.ensures.reads
+    (passes-then c.label.ensures (reads-and c.pair-month.ensures.reads
+    (passes-then c.label-2.ensures c.pair-day.ensures.reads
     (λ n rest fit ends. tt)) (λ n rest fit ends. tt)) (λ n rest fit ends. tt))
     (λ n rest fit ends. tt)) (λ n rest fit ends. tt) in
     let is = rw (c.from.ensures, c.from-2.ensures) at c.in-None.ensures.value in

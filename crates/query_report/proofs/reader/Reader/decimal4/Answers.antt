@@ -1,7 +1,6 @@
 use Rattle.std.proofs.Common.{◌≡◌, ℕ, ◌+◌, ◌*◌, ◌/◌, ◌%◌, ◌<◌, ◌∙◌, ◌++◌, ◌∷◌, List, decimal, refl, sym, ap, arith}
 use Rattle.query_report.specs.Decimal.{decimal4_text}
 use Rattle.query_report.specs.Field.{two_digits}
-use Rattle.query_report.specs.Report.{IsSum}
 use Rattle.query_report.proofs.Digits.{four_digits-pairs}
 use Rattle.query_report.proofs.Reading.{reads-and, passes-then, reads-as, reads-not}
 use Rattle.query_report.proofs.reader.Reader.decimal4.Goals as goal

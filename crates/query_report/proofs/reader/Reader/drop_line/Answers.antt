@@ -1,4 +1,4 @@
-use Rattle.std.proofs.Common.{◌≡◌, ℕ, ◌∙◌, ◌++◌, ◌∷◌, [], Some, None, refl, sym, ap}
+use Rattle.std.proofs.Common.{◌≡◌, ℕ, ◌∙◌, ◌++◌, ◌∷◌, [], Some, None, refl, ap}
 use Rattle.query_report.specs.declared.reply.DropLine.{DropLine}
 use Rattle.query_report.specs.Field.{field}
 use Rattle.query_report.specs.Reply.{drop_letter, drop_number, drop_text}
@@ -11,7 +11,8 @@ parts line = (drop_letter line, drop_number line)
 pub returns-in-Some : goal.returns-in-Some
 unfolding field
 returns-in-Some c =
-    let raw = passes-then c.label.ensures (reads-and c.byte-letter.ensures c.field-number.ensures (λ n rest fit ends. tt))
+    let raw = passes-then c.label.ensures (reads-and c.byte-letter.ensures c.field-number.ensures
+    (λ n rest fit ends. tt))
     (λ n rest fit ends. tt) in
     let line = c.in-Some.line in
     let is = c.in-Some.ensures.some in
@@ -27,7 +28,8 @@ returns-in-Some c =
 pub returns-in-None : goal.returns-in-None
 unfolding field
 returns-in-None c =
-    let raw = passes-then c.label.ensures (reads-and c.byte-letter.ensures c.field-number.ensures (λ n rest fit ends. tt))
+    let raw = passes-then c.label.ensures (reads-and c.byte-letter.ensures c.field-number.ensures
+    (λ n rest fit ends. tt))
     (λ n rest fit ends. tt) in
     reads-not _ _ _ _ (λ (line : DropLine). (drop_letter line, drop_number line)) raw c.expect.ensures
     (λ line fits. (tt, fits)) (λ line fits. refl)

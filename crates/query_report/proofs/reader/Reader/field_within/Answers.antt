@@ -1,4 +1,4 @@
-use Rattle.std.proofs.Common.{ℕ, ◌≤◌, ◌∙◌, arith, refl, sym}
+use Rattle.std.proofs.Common.{ℕ, ◌≤◌, arith, refl, sym}
 use Rattle.query_report.proofs.Reading.{field-reads, reads-fails, reads-is}
 use Rattle.query_report.proofs.reader.Reader.field_within.Goals.{then-number-from-via-then-number-from, then-number-from-via-else-number-from+then-number-from-2}
 use Rattle.query_report.proofs.reader.Reader.field_within.Goals as goal

@@ -1,4 +1,4 @@
-use Rattle.std.proofs.Common.{◌≡◌, ◌∙◌, get_or, ap, sym}
+use Rattle.std.proofs.Common.{◌∙◌, get_or, ap}
 use Rattle.query_report.specs.Form.{form_at}
 use Rattle.query_report.proofs.Front.{stands}
 use Rattle.query_report.proofs.reader.Reader.form.Goals as goal

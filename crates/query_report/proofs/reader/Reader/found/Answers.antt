@@ -1,4 +1,4 @@
-use Rattle.std.proofs.Common.{◌≡◌, ℕ, refl, ap}
+use Rattle.std.proofs.Common.{ℕ, refl, ap}
 use Rattle.cubit_base.specs.Tuple.{TupleValue}
 use Rattle.query_report.specs.declared.reader.reply.Form.TheVariants as form
 use Rattle.query_report.specs.Reading.{EndsNumber}

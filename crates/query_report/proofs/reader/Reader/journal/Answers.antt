@@ -1,4 +1,4 @@
-use Rattle.std.proofs.Common.{◌∙◌, length, ap, arith, refl, sym, rules}
+use Rattle.std.proofs.Common.{length, ap, arith, refl}
 use Rattle.std.proofs.lemmas.List.{length_push}
 use Rattle.query_report.proofs.Journals.{journal-reads}
 use Rattle.query_report.proofs.Reading.{reads-none, reads-more, then-passes}
@@ -19,5 +19,6 @@ loop-place-preserved c = record {
 
 pub returns : goal.returns
 returns c =
-    journal-reads (then-passes c.field-count.ensures c.end_line.ensures (λ rest ends. refl)) c.loop-place.invariant.reads
+    journal-reads (then-passes c.field-count.ensures c.end_line.ensures
+    (λ rest ends. refl)) c.loop-place.invariant.reads
     (λ rest e. omega arith)

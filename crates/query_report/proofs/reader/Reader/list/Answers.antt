@@ -1,4 +1,4 @@
-use Rattle.std.proofs.Common.{◌≡◌, ◌∙◌, ◌+◌, ◌++◌, ◌∷◌, [], None, Some, length, drop, ap, arith, refl, sym, rules}
+use Rattle.std.proofs.Common.{◌≡◌, ◌∙◌, ◌+◌, ◌++◌, length, drop, ap, arith, sym, rules}
 use Rattle.std.proofs.lemmas.List.{length_push, length-drop}
 use Rattle.query_report.proofs.Rows.{list-none, list-some, more_ends, push_first, push_behind}
 use Rattle.query_report.proofs.Reading.{failed, reads-none, reads-more}

@@ -1,4 +1,4 @@
-use Rattle.std.proofs.Common.{◌≡◌, ◌+◌, ◌∙◌, ◌∷◌, length, ap, arith, refl, sym, rules}
+use Rattle.std.proofs.Common.{◌+◌, ◌∙◌, ◌∷◌, length, ap, arith, sym}
 use Rattle.std.proofs.lemmas.List.{length_push, length-append, nil_from_length}
 use Rattle.query_report.proofs.Reading.{reads-none, reads-more, reads-whole}
 use Rattle.query_report.proofs.Workers.{later_ends, lists_done, lists_go}
@@ -13,14 +13,16 @@ loop-worker-init c = record {
 pub returns-then-not-is_at-clause-reads : goal.returns-then-not-is_at-clause-reads
 returns-then-not-is_at-clause-reads c =
     reads-whole c.loop-worker.invariant.reads (λ left rest is ends e.
-    lists_done _ c.loop-worker.lists.items left rest c.loop-worker.self is.1 (sym c.is_at.ensures ∙ c.if-not-is_at.true) e)
+    lists_done _ c.loop-worker.lists.items left rest c.loop-worker.self is.1 (sym c.is_at.ensures
+    ∙ c.if-not-is_at.true) e)
 
 pub loop-worker-preserved : goal.loop-worker-preserved
 loop-worker-preserved c =
     let lists = c.loop-worker.lists.items in
     let worker = c.loop-worker.worker in
     record {
-      reads = reads-more {n = worker} c.loop-worker.invariant.reads c.in_ok-replies_of.ensures (omega arith) c.in_ok-push.ensures.items
+      reads = reads-more {n = worker} c.loop-worker.invariant.reads c.in_ok-replies_of.ensures
+          (omega arith) c.in_ok-push.ensures.items
           (λ list left rest is ends. later_ends worker (worker + 1) left rest (omega arith)
           (omega (arith, is.0, length-append lists (list ∷ left))) ends)
           (λ rest is ends e. lists_go rest c.loop-worker.self (sym c.is_at.ensures ∙ c.if-not-is_at.false) ends e);

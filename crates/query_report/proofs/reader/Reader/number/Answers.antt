@@ -1,4 +1,4 @@
-use Rattle.std.proofs.Common.{◌≡◌, ℕ, ◌<◌, ◌∙◌, List, true, length, take, drop, get_or, refl, sym, ap, arith, rules, None, true≢false}
+use Rattle.std.proofs.Common.{◌≡◌, ℕ, ◌<◌, ◌∙◌, List, take, drop, refl, sym, ap, arith, rules, None, true≢false}
 use Rattle.std.specs.List.{AllPass, prefix_len}
 use Rattle.std.proofs.lemmas.List.{get_or-take}
 use Rattle.std.proofs.lemmas.List.Folds.{length-prefix_len}
@@ -28,7 +28,8 @@ returns-clause-reads c =
     let rest : c.split_at.result.1.now ≡ behind bytes =
     c.split_at.ensures.back ∙ ap (λ n. drop n bytes) c.digit_count.ensures in
     let value : c.spelled.result ≡ spelled (digits_of bytes) = c.spelled.ensures.value ∙ ap spelled digits in
-    let is : IsNumeral (digits_of bytes) = rw (← digits) (c.is_numeral.ensures.0 (let yes = c.if-not-is_numeral.false in search rules)) in
+    let is : IsNumeral (digits_of bytes) = rw (← digits) (c.is_numeral.ensures.0
+    (let yes = c.if-not-is_numeral.false in search rules)) in
     reads-is c.args.self.now c.spelled.result (left_of fine c.split_at.result.1.now)
     (number-some bytes fine is (omega (arith, value))) c.self.view_is (sym value) (ap (left_of fine) (sym rest))
 
@@ -38,5 +39,6 @@ returns-then-not-is_numeral-clause-reads c =
     let digits : c.split_at.result.0.now ≡ digits_of bytes =
     c.split_at.ensures.front ∙ ap (λ n. take n bytes) c.digit_count.ensures in
     let other : IsNumeral (digits_of bytes) → ⊥ =
-    λ is. true≢false (sym (let yes = c.is_numeral.ensures.1 (rw digits is) in search rules) ∙ c.if-not-is_numeral.true) in
+    λ is. true≢false (sym (let yes = c.is_numeral.ensures.1 (rw digits is) in search rules)
+    ∙ c.if-not-is_numeral.true) in
     reads-is c.args.self.now 0 None (number-none bytes c.self.inside.is_fine 0 other) c.self.view_is refl refl

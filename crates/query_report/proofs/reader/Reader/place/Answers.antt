@@ -1,4 +1,4 @@
-use Rattle.std.proofs.Common.{◌≡◌, ℕ, refl, ap, arith}
+use Rattle.std.proofs.Common.{ℕ, refl, ap, arith}
 use Rattle.cubit_base.specs.Key.{KeyValue}
 use Rattle.query_report.specs.Field.{field}
 use Rattle.query_report.specs.Journal.{place_text}

@@ -1,4 +1,4 @@
-use Rattle.std.proofs.Common.{◌≡◌, ◌+◌, ◌∙◌, length, ap, arith, refl, sym, rules}
+use Rattle.std.proofs.Common.{◌+◌, length, ap, arith}
 use Rattle.std.proofs.lemmas.List.{length_push, length-append, nil_from_length}
 use Rattle.query_report.proofs.Reading.{reads-none, reads-more, reads-whole}
 use Rattle.query_report.proofs.Workers.{worker_done, worker_goes}
@@ -17,8 +17,10 @@ returns-then-not-is_at_worker c =
 
 pub loop-at-preserved : goal.loop-at-preserved
 loop-at-preserved c = record {
-  reads = reads-more {n = c.loop-at.at + 1} c.loop-at.invariant.reads c.in_ok-reply_line.ensures (omega arith) c.in_ok-push.ensures.ok
-      (λ reply left rest is ends. tt) (λ rest is ends e. worker_goes c.args.worker rest c.loop-at.self c.if-not-is_at_worker.ensures ends e);
+  reads = reads-more {n = c.loop-at.at + 1} c.loop-at.invariant.reads c.in_ok-reply_line.ensures
+      (omega arith) c.in_ok-push.ensures.ok
+      (λ reply left rest is ends. tt)
+      (λ rest is ends e. worker_goes c.args.worker rest c.loop-at.self c.if-not-is_at_worker.ensures ends e);
   count = omega (arith, ap length c.in_ok-push.ensures.ok, length_push c.loop-at.list c.in_ok-reply_line.field-0);
 }
 

@@ -35,16 +35,20 @@ returns-in-Missing c = reply-reads form.Missing (form-reads form.Missing c.field
 
 pub returns-in-TableFull : goal.returns-in-TableFull
 unfolding reply_bytes
-returns-in-TableFull c = reply-reads form.TableFull (form-reads form.TableFull c.field-front-in-TableFull.ensures) c.in-TableFull.ensures
+returns-in-TableFull c = reply-reads form.TableFull
+    (form-reads form.TableFull c.field-front-in-TableFull.ensures) c.in-TableFull.ensures
 
 pub returns-in-LogFull : goal.returns-in-LogFull
 unfolding reply_bytes
-returns-in-LogFull c = reply-reads form.LogFull (form-reads form.LogFull c.field-front-in-LogFull.ensures) c.in-LogFull.ensures
+returns-in-LogFull c = reply-reads form.LogFull
+    (form-reads form.LogFull c.field-front-in-LogFull.ensures) c.in-LogFull.ensures
 
 pub returns-in-DropLines : goal.returns-in-DropLines
 unfolding reply_bytes
-returns-in-DropLines c = reply-reads form.DropLines (form-reads form.DropLines c.drop_lines.ensures) c.in-DropLines.ensures
+returns-in-DropLines c = reply-reads form.DropLines
+    (form-reads form.DropLines c.drop_lines.ensures) c.in-DropLines.ensures
 
 pub returns-in-Absent : goal.returns-in-Absent
 unfolding reply_bytes
-returns-in-Absent c = reply-reads form.Absent (form-reads form.Absent c.field-front-in-Absent.ensures) c.in-Absent.ensures
+returns-in-Absent c = reply-reads form.Absent
+    (form-reads form.Absent c.field-front-in-Absent.ensures) c.in-Absent.ensures

@@ -1,4 +1,4 @@
-use Rattle.std.proofs.Common.{◌≡◌, ℕ, ◌∙◌, ◌++◌, ◌∷◌, [], List, decimal, refl, sym, ap, append_assoc}
+use Rattle.std.proofs.Common.{◌≡◌, ℕ, ◌++◌, ◌∷◌, [], List, refl, ap, append_assoc}
 use Rattle.cubit_base.specs.declared.tuple.Flag.{Flag}
 use Rattle.cubit_base.specs.declared.tuple.LineStatus.{LineStatus}
 use Rattle.cubit_base.specs.Tuple.{TupleValue}

@@ -1,1 +1,0 @@
-use Rattle.query_report.proofs.reader.Reader.status.Goals as goal
