@@ -1,3 +1,5 @@
 mod Adding
 mod Answering
 mod Replying
+mod Running
+mod Sparing
