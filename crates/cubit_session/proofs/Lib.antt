@@ -3,3 +3,5 @@ mod Answering
 mod Replying
 mod Running
 mod Sparing
+mod Taking
+mod Whole
