@@ -13,9 +13,8 @@ use Rattle.table_ops.specs.declared.outcome.Placed.{Placed}
 use Rattle.table_ops.specs.declared.outcome.OpStop.{OpStop}
 use Rattle.table_ops.specs.declared.outcome.OpStop.TheVariants as stop
 use Rattle.table_ops.specs.Changed.{IsChanged, IsPlaced, IsStopped, stop_front, stop_outcome, outcome_after}
-use Rattle.cubit_session.specs.Run.{Setting, StandsAt, IsRefusedAt, outcome_at}
+use Rattle.cubit_session.specs.Run.{Setting, Stands, Tells, outcome_at}
 use Rattle.cubit_session.specs.Step.{setting_of}
-use Rattle.cubit_session.proofs.Adding.{reads-grow}
 
 get-begins : (log longer : List Delta) (place : ℕ) (d : Delta) → Begins log longer → slice_get log place ≡ Some d →
     slice_get longer place ≡ Some d
@@ -26,59 +25,86 @@ get-begins log longer place d begins is =
     ∙ ap (λ (l : List Delta). Some (get_or l place d)) begins.1
     ∙ ap Some (get_or_append_left log begins.0 d place within ∙ get_or_from_slice_get log place d d is)
 
--- what stands in a journal, or was refused at a front of it, does so in a longer one
-pub stands-later : (s : Setting) (log longer : List Delta) (author : ℕ) (change : Change) (place row : ℕ) →
-    Begins log longer → StandsAt s log author change place row → StandsAt s longer author change place row
-stands-later s log longer author change place row begins is =
-    let within = slice_get_within log place is.delta is.stands in record {
-      delta = is.delta;
-      stands = get-begins log longer place is.delta begins is.stands;
-      outcome_is = ap (λ (l : List Delta). outcome s.row_limit s.log_limit (after s.base l) place author change)
-          (take-begins log longer place begins (omega (arith, within))) ∙ is.outcome_is;
-      row_is = is.row_is;
-    }
+-- what comes to something behind some deltas of a journal does so in a longer one
+outcome-later : (s : Setting) (log longer : List Delta) (author : ℕ) (change : Change) (front : ℕ) →
+    Begins log longer → front ≤ length log →
+    outcome_at s longer author change front ≡ outcome_at s log author change front
+outcome-later s log longer author change front begins within =
+    ap (λ (l : List Delta). outcome s.row_limit s.log_limit (after s.base l) front author change)
+    (take-begins log longer front begins within)
 
-pub refused-later : (s : Setting) (log longer : List Delta) (author : ℕ) (change : Change) (front : ℕ)
-    (refusal : Outcome) → Begins log longer → IsRefusedAt s log author change front refusal →
-    IsRefusedAt s longer author change front refusal
-refused-later s log longer author change front refusal begins is =
-    let long = begins-length log longer begins in record {
-      within = omega (arith, is.within, long);
-      outcome_is = ap (λ (l : List Delta). outcome s.row_limit s.log_limit (after s.base l) front author change)
-          (take-begins log longer front begins is.within) ∙ is.outcome_is;
-    }
+stands-within : (log : List Delta) (front : ℕ) (o : Outcome) → Stands log front o → front ≤ length log
+stands-within log front (changes.Placed d) is = let within = slice_get_within log front d is in omega (arith, within)
+stands-within log front (changes.Duplicate row) is = is
+stands-within log front changes.Missing is = is
+stands-within log front changes.TableFull is = is
+stands-within log front changes.LogFull is = is
+
+stands-later : (log longer : List Delta) (front : ℕ) (o : Outcome) → Begins log longer → Stands log front o →
+    Stands longer front o
+stands-later log longer front (changes.Placed d) begins is = get-begins log longer front d begins is
+stands-later log longer front (changes.Duplicate row) begins is =
+    let long = begins-length log longer begins in omega (arith, is, long)
+stands-later log longer front changes.Missing begins is =
+    let long = begins-length log longer begins in omega (arith, is, long)
+stands-later log longer front changes.TableFull begins is =
+    let long = begins-length log longer begins in omega (arith, is, long)
+stands-later log longer front changes.LogFull begins is =
+    let long = begins-length log longer begins in omega (arith, is, long)
+
+pub tells-later : {A : Type 0} (s : Setting) (log longer : List Delta) (author : ℕ) (change : Change)
+    (tell : ℕ → Outcome → A) (told : A) → Begins log longer → Tells s log author change tell told →
+    Tells s longer author change tell told
+tells-later s log longer author change tell told begins (front, stands, is) =
+    let within = stands-within log front (outcome_at s log author change front) stands in
+    let same = outcome-later s log longer author change front begins within in (
+      front,
+      subst (Stands longer front) (sym same)
+          (stands-later log longer front (outcome_at s log author change front) begins stands),
+      ap (tell front) same ∙ is,
+    )
+
+-- behind all that was read
+at-whole : (terms : Terms) (pages : ℕ) (seen : List Delta) (author : ℕ) (change : Change) (front : ℕ) →
+    front ≡ length seen →
+    outcome_at (setting_of terms pages) seen author change front ≡ outcome_after terms seen author change
+at-whole terms pages seen author change front is =
+    ap (outcome_at (setting_of terms pages) seen author change) is
+    ∙ ap (λ (l : List Delta). outcome terms.limits.row_limit terms.limits.log_limit (after terms.base l)
+    (length seen) author change) (take_all (length seen) seen (omega arith))
 
 -- a change that was made stands where its reply says
-pub stands-placed : (terms : Terms) (pages : ℕ) (a b : Handle) (change : Change) (placed : Placed) →
-    IsPlaced terms (with_look a) change b placed →
-    StandsAt (setting_of terms pages) b.seen a.author change placed.place placed.row
-stands-placed terms pages a b change placed is =
+pub tells-placed : {A : Type 0} (terms : Terms) (pages : ℕ) (a b : Handle) (change : Change) (placed : Placed)
+    (tell : ℕ → Outcome → A) (told : A) → IsPlaced terms (with_look a) change b placed →
+    ((d : Delta) → placed.row ≡ d.row → tell placed.place (changes.Placed d) ≡ told) →
+    Tells (setting_of terms pages) b.seen a.author change tell told
+tells-placed terms pages a b change placed tell told is tells =
     let read = is.read.seen in
     let seen = ap (λ (h : Handle). h.seen) is.appended.is in
     let longer = length-append read (is.delta ∷ []) in
-    let prefix : take (length read) (read ++ is.delta ∷ []) ≡ read =
-    take-append-le (length read) read (is.delta ∷ []) (omega arith) ∙ take_all (length read) read (omega arith) in
-    let stands : slice_get (read ++ is.delta ∷ []) (length read) ≡ Some is.delta =
-    slice_get-get_or (read ++ is.delta ∷ []) (length read) is.delta (omega (arith, longer))
-    ∙ ap Some (get_or_push read is.delta is.delta (length read) refl) in record {
-      delta = is.delta;
-      stands = ap (slice_get b.seen) is.place ∙ ap (λ (l : List Delta). slice_get l (length read)) seen ∙ stands;
-      outcome_is = ap (λ n. outcome_at (setting_of terms pages) b.seen a.author n change) is.place
-          ∙ ap (λ (l : List Delta). outcome_at (setting_of terms pages) l a.author (length read) change) seen
-          ∙ ap (λ (l : List Delta). outcome terms.limits.row_limit terms.limits.log_limit (after terms.base l)
-          (length read) a.author change) prefix
-          ∙ is.outcome_is;
-      row_is = is.row;
-    }
+    let within : placed.place ≤ length read = omega (arith, is.place) in
+    let comes : outcome_at (setting_of terms pages) b.seen a.author change placed.place ≡ changes.Placed is.delta =
+    outcome-later (setting_of terms pages) read b.seen a.author change placed.place (is.delta ∷ [], seen) within
+    ∙ at-whole terms pages read a.author change placed.place is.place ∙ is.outcome_is in
+    let stands : slice_get b.seen placed.place ≡ Some is.delta =
+    ap (slice_get b.seen) is.place ∙ ap (λ (l : List Delta). slice_get l (length read)) seen
+    ∙ slice_get-get_or (read ++ is.delta ∷ []) (length read) is.delta (omega (arith, longer))
+    ∙ ap Some (get_or_push read is.delta is.delta (length read) refl) in (
+      placed.place,
+      subst (Stands b.seen placed.place) (sym comes) stands,
+      ap (tell placed.place) comes ∙ tells is.delta is.row,
+    )
 
 -- a change that was stopped is refused at the front of its stop
-pub refused-stopped : (terms : Terms) (pages : ℕ) (a b : Handle) (change : Change) (stopped : OpStop) →
-    IsStopped terms (with_look a) change b stopped →
-    IsRefusedAt (setting_of terms pages) b.seen a.author change (stop_front stopped).len (stop_outcome stopped)
-refused-stopped terms pages a b change stopped is = record {
-  within = omega (arith, is.whole.whole);
-  outcome_is = ap (λ n. outcome_at (setting_of terms pages) b.seen a.author n change) is.whole.whole
-      ∙ ap (λ (l : List Delta). outcome terms.limits.row_limit terms.limits.log_limit (after terms.base l)
-      (length b.seen) a.author change) (take_all (length b.seen) b.seen (omega arith))
-      ∙ is.outcome_is;
-}
+pub tells-stopped : {A : Type 0} (terms : Terms) (pages : ℕ) (a b : Handle) (change : Change) (stopped : OpStop)
+    (tell : ℕ → Outcome → A) (told : A) → IsStopped terms (with_look a) change b stopped →
+    Stands b.seen (stop_front stopped).len (stop_outcome stopped) →
+    tell (stop_front stopped).len (stop_outcome stopped) ≡ told →
+    Tells (setting_of terms pages) b.seen a.author change tell told
+tells-stopped terms pages a b change stopped tell told is stands tells =
+    let comes = at-whole terms pages b.seen a.author change (stop_front stopped).len is.whole.whole
+    ∙ is.outcome_is in (
+      (stop_front stopped).len,
+      subst (Stands b.seen (stop_front stopped).len) (sym comes) stands,
+      ap (tell (stop_front stopped).len) comes ∙ tells,
+    )

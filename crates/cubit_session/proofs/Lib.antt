@@ -1,3 +1,7 @@
 mod Adding
 mod Answering
 mod Replying
+mod Running
+mod Sparing
+mod Taking
+mod Whole

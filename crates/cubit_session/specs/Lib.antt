@@ -1,3 +1,4 @@
 pub mod Alone
 pub mod Run
 pub mod Step
+pub mod Through

@@ -1,15 +1,17 @@
 -- Runs: the replies and the one journal that scripts over a base table come to, whatever order their commands took.
 use Rattle.std.specs.Prelude.{◌≡◌, ℕ, ◌+◌, ◌≤◌, List, [], ◌∷◌, length, take, slice_get, map, flat_map, Option, Some, None}
 use Rattle.std.specs.List.{AllZip, slice_index_or}
+use Rattle.cubit_base.specs.Tuple.{TupleValue}
 use Rattle.cubit_base.specs.Table.{Row}
 use Rattle.cubit_base.specs.LiveRow.{live_row}
 use Rattle.cubit_base.specs.History.{after, IsHistory}
-use Rattle.cubit_base.specs.Answer.{answer}
+use Rattle.cubit_base.specs.Answer.{Answer, answer}
 use Rattle.cubit_base.specs.Change.{Change, Outcome, outcome}
 use Rattle.cubit_base.specs.Change as changes
 use Rattle.cubit_base.specs.declared.delta.Delta.{Delta}
 use Rattle.cubit_base.specs.declared.command.Command.{Command}
 use Rattle.cubit_base.specs.declared.command.Command.TheVariants.{Insert, Update, Delete, DropOrder, Lookup, Rows, Count, Sum, Q6, Merge}
+use Rattle.cubit_base.specs.declared.predicate.Predicate.{Predicate}
 use Rattle.commit_log.specs.Handle.{places_by}
 use Rattle.query_report.specs.declared.reply.DropLine.{DropLine}
 use Rattle.query_report.specs.declared.reply.DropLine.TheVariants as line
@@ -29,74 +31,78 @@ abbrev pub table_at : Setting → List Delta → ℕ → List Row
 table_at s journal front = after s.base (take front journal)
 
 -- what an author's change comes to there
-abbrev pub outcome_at : Setting → List Delta → ℕ → ℕ → Change → Outcome
-outcome_at s journal author front change =
+abbrev pub outcome_at : Setting → List Delta → ℕ → Change → ℕ → Outcome
+outcome_at s journal author change front =
     outcome s.row_limit s.log_limit (table_at s journal front) front author change
 
--- the change's delta stands at this place, as it comes to there
-pub record StandsAt (s : Setting) (journal : List Delta) (author : ℕ) (change : Change) (place row : ℕ) : Type 0 where
-  pub delta : Delta
-  pub stands : slice_get journal place ≡ Some delta
-  pub outcome_is : outcome_at s journal author place change ≡ changes.Placed delta
-  pub row_is : row ≡ delta.row
+-- the reply to a change that comes to this behind so many deltas
+abbrev pub outcome_reply : ℕ → Outcome → Reply
+outcome_reply front (changes.Placed delta) = reply.Placed front delta.row
+outcome_reply front (changes.Duplicate row) = reply.Duplicate front row
+outcome_reply front changes.Missing = reply.Missing front
+outcome_reply front changes.TableFull = reply.TableFull front
+outcome_reply front changes.LogFull = reply.LogFull front
 
--- the change was refused at this front
-pub record IsRefusedAt (s : Setting) (journal : List Delta) (author : ℕ) (change : Change) (front : ℕ)
-    (refusal : Outcome) : Type 0 where
-  pub within : front ≤ length journal
-  pub outcome_is : outcome_at s journal author front change ≡ refusal
+-- the same of the delete of a line of an order, which meets no live key, and no full table
+abbrev pub outcome_line : ℕ → Outcome → Option DropLine
+outcome_line front (changes.Placed delta) = Some (line.Placed front)
+outcome_line front (changes.Duplicate row) = None
+outcome_line front changes.Missing = Some (line.Missing front)
+outcome_line front changes.TableFull = None
+outcome_line front changes.LogFull = Some (line.LogFull front)
 
--- the reply to a change
-abbrev pub AnswersChange : Setting → List Delta → ℕ → Change → Reply → Type 0
-AnswersChange s journal author change (reply.Placed place row) = StandsAt s journal author change place row
-AnswersChange s journal author change (reply.Duplicate front row) =
-    IsRefusedAt s journal author change front (changes.Duplicate row)
-AnswersChange s journal author change (reply.Missing front) = IsRefusedAt s journal author change front changes.Missing
-AnswersChange s journal author change (reply.TableFull front) =
-    IsRefusedAt s journal author change front changes.TableFull
-AnswersChange s journal author change (reply.LogFull front) = IsRefusedAt s journal author change front changes.LogFull
-AnswersChange s journal author change reply = ⊥
+-- where a change comes to a delta, this is the next one of the journal
+abbrev pub Stands : List Delta → ℕ → Outcome → Type 0
+Stands journal front (changes.Placed delta) = slice_get journal front ≡ Some delta
+Stands journal front refused = front ≤ length journal
 
--- what became of a line of an order that is dropped: the reply to its delete, whose row is not told
-abbrev pub AnswersLine : Setting → List Delta → ℕ → Change → DropLine → Type 0
-AnswersLine s journal author change (line.Placed place) = (row : ℕ) × StandsAt s journal author change place row
-AnswersLine s journal author change (line.Missing front) = IsRefusedAt s journal author change front changes.Missing
-AnswersLine s journal author change (line.LogFull front) = IsRefusedAt s journal author change front changes.LogFull
+-- what is told is what the change comes to behind some of the journal's deltas, and where it comes to a delta, this one
+-- stands there
+abbrev pub Tells : {A : Type 0} → Setting → List Delta → ℕ → Change → (ℕ → Outcome → A) → A → Type 0
+Tells s journal author change tell told =
+    (front : ℕ) × Stands journal front (outcome_at s journal author change front)
+    × (tell front (outcome_at s journal author change front) ≡ told)
 
 -- the lines of an order from this number on, up to line 7
-abbrev pub AnswersDrop : Setting → List Delta → ℕ → ℕ → ℕ → List DropLine → Type 0
-AnswersDrop s journal author order number [] = number ≡ 8
-AnswersDrop s journal author order number (told ∷ lines) =
-    AnswersLine s journal author (changes.Delete (record { order = order; line = number })) told
-    × AnswersDrop s journal author order (number + 1) lines
+abbrev pub TellsLines : Setting → List Delta → ℕ → ℕ → ℕ → List DropLine → Type 0
+TellsLines s journal author order number [] = number ≡ 8
+TellsLines s journal author order number (told ∷ lines) =
+    Tells s journal author (changes.Delete (record { order = order; line = number })) outcome_line (Some told)
+    × TellsLines s journal author order (number + 1) lines
 
--- a query was answered at this front, to which units were brought by so many deltas
-pub record IsAnsweredAt (journal : List Delta) (front patched : ℕ) : Type 0 where
-  pub within : front ≤ length journal
-  pub patched_is : patched ≤ front
+-- the reply that tells a key's live row, or that there is none
+abbrev pub live_reply : ℕ → Option (ℕ × TupleValue) → Reply
+live_reply front None = reply.Absent front
+live_reply front (Some (row, tuple)) = reply.Found front row tuple
+
+-- the reply that tells what a query comes to at some front, to which its units were brought by so many deltas
+abbrev pub TellsAnswer : Setting → List Delta → Predicate → (ℕ → Answer → ℕ → Reply) → Reply → Type 0
+TellsAnswer s journal p tell told =
+    (front : ℕ) × (patched : ℕ) × (front ≤ length journal) × (patched ≤ front)
+    × (tell front (answer (table_at s journal front) p) patched ≡ told)
 
 -- the reply to a command
 abbrev pub Answers : Setting → List Delta → ℕ → Command → Reply → Type 0
-Answers s journal author (Insert key tuple) told = AnswersChange s journal author (changes.Insert key tuple) told
-Answers s journal author (Update key tuple) told = AnswersChange s journal author (changes.Update key tuple) told
-Answers s journal author (Delete key) told = AnswersChange s journal author (changes.Delete key) told
-Answers s journal author (DropOrder order) (reply.DropLines lines) = AnswersDrop s journal author order 1 lines
-Answers s journal author (Lookup key) (reply.Found front row tuple) =
-    (front ≤ length journal) × (live_row (table_at s journal front) key ≡ Some (row, tuple))
-Answers s journal author (Lookup key) (reply.Absent front) =
-    (front ≤ length journal) × (live_row (table_at s journal front) key ≡ None)
-Answers s journal author (Rows p) (reply.Rows front list patched) =
-    IsAnsweredAt journal front patched × (list ≡ (answer (table_at s journal front) p).rows)
-Answers s journal author (Count p) (reply.Count front count patched) =
-    IsAnsweredAt journal front patched × (count ≡ (answer (table_at s journal front) p).count)
-Answers s journal author (Sum p) (reply.Sum front count sum patched) =
-    IsAnsweredAt journal front patched × (count ≡ (answer (table_at s journal front) p).count)
-    × (sum ≡ (answer (table_at s journal front) p).sum)
-Answers s journal author (Q6 p) (reply.Q6 front count sum patched) =
-    IsAnsweredAt journal front patched × (count ≡ (answer (table_at s journal front) p).count)
-    × (sum ≡ (answer (table_at s journal front) p).sum)
-Answers s journal author Merge (reply.Merge merged fresh busy) = merged + fresh + busy ≡ s.units
-Answers s journal author command told = ⊥
+Answers s journal author (Insert key tuple) told =
+    Tells s journal author (changes.Insert key tuple) outcome_reply told
+Answers s journal author (Update key tuple) told =
+    Tells s journal author (changes.Update key tuple) outcome_reply told
+Answers s journal author (Delete key) told = Tells s journal author (changes.Delete key) outcome_reply told
+Answers s journal author (DropOrder order) told =
+    (lines : List DropLine) × TellsLines s journal author order 1 lines × (reply.DropLines lines ≡ told)
+Answers s journal author (Lookup key) told =
+    (front : ℕ) × (front ≤ length journal) × (live_reply front (live_row (table_at s journal front) key) ≡ told)
+Answers s journal author (Rows p) told =
+    TellsAnswer s journal p (λ front a patched. reply.Rows front a.rows patched) told
+Answers s journal author (Count p) told =
+    TellsAnswer s journal p (λ front a patched. reply.Count front a.count patched) told
+Answers s journal author (Sum p) told =
+    TellsAnswer s journal p (λ front a patched. reply.Sum front a.count a.sum patched) told
+Answers s journal author (Q6 p) told =
+    TellsAnswer s journal p (λ front a patched. reply.Q6 front a.count a.sum patched) told
+Answers s journal author Merge told =
+    (merged : ℕ) × (fresh : ℕ) × (busy : ℕ) × (merged + fresh + busy ≡ s.units)
+    × (reply.Merge merged fresh busy ≡ told)
 
 -- what a part of a reply was made at: no earlier mark of its worker is greater than `least`; and its own mark, the
 -- number of deltas that its worker knew of then

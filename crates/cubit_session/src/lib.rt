@@ -2,7 +2,9 @@
 #![tactic(auto)]
 
 pub mod laws;
+mod script;
 mod worker;
 
 pub use cubit_base::Memory;
+pub use script::{Outcome, run_script};
 pub use worker::Worker;
