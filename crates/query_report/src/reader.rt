@@ -1,6 +1,6 @@
 //! A reader of a text from its front, in one pass and without memory. Once something is asked for that does not stand
 //! there the reader has failed, and stays so: nothing is left to read, and what it answers from then on means nothing.
-ghost use Rattle.std.specs.Prelude.{◌≡◌, ◌≢◌, ◌<◌, ◌≤◌, ◌^◌, ◌↔◌, ℕ, List, [], ◌∷◌, codes, decimal, length, Some, None, IsTrue, if◌then◌else◌};
+ghost use Rattle.std.specs.Prelude.{◌≡◌, ◌<◌, ◌≤◌, ◌^◌, ◌↔◌, [], ◌∷◌, codes, decimal, length, Some, None, IsTrue, if◌then◌else◌};
 ghost use Rattle.std.specs.List.{AllPass, prefix_len};
 ghost use Rattle.query_report.specs.Field.{field, two_digits};
 ghost use Rattle.query_report.specs.Reading.{Reads, Passes, Anything, EndsNumber, IsNumber, IsNumeral, begins, is_digit, spelled};

@@ -1,5 +1,5 @@
 //! Replies to commands, and their texts.
-ghost use Rattle.std.specs.Prelude.{◌≡◌, ◌+◌, ◌<◌, ◌≤◌, ◌^◌, ◌++◌, length, codes, count_by, OnOk, IfOk};
+ghost use Rattle.std.specs.Prelude.{◌≡◌, ◌+◌, ◌<◌, ◌≤◌, ◌++◌, length, codes, count_by, OnOk, IfOk};
 ghost use Rattle.query_report.specs.Field.{two_fields};
 ghost use Rattle.query_report.specs.Reply.{numbered_text, drops_text, drop_reply, is_deleted, more_text, list_text, rows_reply, found_text, count_text, sum_text, merge_text, reply_bytes, reply_line};
 

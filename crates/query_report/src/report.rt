@@ -1,5 +1,5 @@
 //! Reports: the replies and the journal of a run as a text, both ways.
-ghost use Rattle.std.specs.Prelude.{◌≡◌, ◌≢◌, ℕ, List, Some, IfOk, IfSome, IfNone};
+ghost use Rattle.std.specs.Prelude.{◌≡◌, ◌≢◌, List, Some, IfOk, IfSome, IfNone};
 ghost use Rattle.cubit_base.specs.declared.delta.Delta.{Delta as ADelta};
 ghost use Rattle.query_report.specs.declared.reply.Reply.{Reply as AReply};
 ghost use Rattle.query_report.specs.Report.{IsReport, report_bytes};

@@ -1,6 +1,5 @@
 //! Readers of the lines of a report.
 ghost use Rattle.std.specs.Prelude.{◌≤◌, length, IfOk};
-ghost use Rattle.std.specs.List.{AllByRecursion};
 ghost use Rattle.query_report.specs.Journal.{delta_line, place_text, journal_bytes};
 ghost use Rattle.query_report.specs.Reading.{Reads, Anything, EndsNumber, EndsReplies, EndsWorker, IsAtWorker};
 ghost use Rattle.query_report.specs.Reply.{reply_line};

@@ -1,5 +1,5 @@
 //! Readers of replies.
-ghost use Rattle.std.specs.Prelude.{◌≡◌, ◌≢◌, ◌<◌, ◌≤◌, ◌+◌, ◌*◌, ℕ, List, [], ◌∷◌, ◌++◌, length, Some, IfOk, IfSome, IfNone, codes};
+ghost use Rattle.std.specs.Prelude.{◌≡◌, ◌<◌, ◌≤◌, ◌+◌, ◌*◌, ℕ, List, ◌∷◌, ◌++◌, length, Some, IfOk, IfSome, IfNone};
 ghost use Rattle.std.specs.List.{AllByRecursion};
 ghost use Rattle.query_report.specs.declared.reply.DropLine.{DropLine as ALine};
 ghost use Rattle.query_report.specs.Decimal.{decimal4_text};
@@ -7,8 +7,8 @@ ghost use Rattle.query_report.specs.Field.{field, two_fields};
 ghost use Rattle.query_report.specs.declared.reader.reply.Form.TheVariants as form;
 ghost use Rattle.query_report.specs.Form.{form_at, ReadsForm};
 ghost use Rattle.query_report.specs.Reading.{Reads, Anything, EndsNumber, IsNumber, IsLabel};
-ghost use Rattle.query_report.specs.Reply.{drop_letter, drop_number, drop_text, drop_reply, list_text, rows_reply, found_text, sum_text, reply_bytes};
-ghost use Rattle.query_report.specs.Report.{IsDropLine, IsReply, IsSum, IsFound, IsRows, IsAnswer};
+ghost use Rattle.query_report.specs.Reply.{drop_letter, drop_number, drop_text, drop_reply, list_text, sum_text, reply_bytes};
+ghost use Rattle.query_report.specs.Report.{IsDropLine, IsReply, IsSum, IsAnswer};
 
 use super::Reader;
 use crate::reply::deleted_count;
