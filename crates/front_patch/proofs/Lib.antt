@@ -1,5 +1,6 @@
 mod Climbing
 mod Dealing
+mod FirstDays
 mod Groups
 mod Holding
 mod Keys

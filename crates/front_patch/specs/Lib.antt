@@ -5,6 +5,7 @@ pub mod Planned
 pub mod Changed
 pub mod Keys
 pub mod Digits
+pub mod Values
 pub mod ChangedRows
 pub mod Patch
 pub mod Taken
