@@ -5,6 +5,7 @@ mod Groups
 mod Holding
 mod Keys
 mod Least
+mod Marks
 mod Pages
 mod Patching
 mod Rising

@@ -1,5 +1,6 @@
 pub mod RowStates
 pub mod Bits
+pub mod Marks
 pub mod PageAtFront
 pub mod Planned
 pub mod Changed
