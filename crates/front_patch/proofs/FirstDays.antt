@@ -52,7 +52,8 @@ pub first-is : (month : ℕ) (day : Option ℕ) → day ≡ day_value (1992 + mo
     IsFirst (unwrap_or day 2557) month
 first-is month None is = record {
   of_month = λ below.
-      let some = is ∙ cond-true _ (Some (day_number (1992 + month / 12) (month % 12 + 1) 1)) None (is_day-first month below) in
+      let number = day_number (1992 + month / 12) (month % 12 + 1) 1 in
+      let some : None ≡ Some number = is ∙ cond-true _ (Some number) None (is_day-first month below) in
       absurd cc;
   behind = λ none. omega arith;
 }
