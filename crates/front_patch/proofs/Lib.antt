@@ -1,9 +1,11 @@
 mod Climbing
 mod Dealing
+mod FirstDays
 mod Groups
 mod Holding
 mod Keys
 mod Least
+mod Marks
 mod Pages
 mod Patching
 mod Rising

@@ -1,10 +1,12 @@
 pub mod RowStates
 pub mod Bits
+pub mod Marks
 pub mod PageAtFront
 pub mod Planned
 pub mod Changed
 pub mod Keys
 pub mod Digits
+pub mod Values
 pub mod ChangedRows
 pub mod Patch
 pub mod Taken

@@ -105,8 +105,9 @@ fn set_states(groups: &mut [u32], first: u64, test: RowTest, states: &[RowState]
     ensures rows { (row : ℕ) →
         row_in groups.new row ≡ shown_by test (last_state (first + row) states.now) (row_in groups.old row) }
 {
+    let values = test.values();
     for state in states {
         let row = (u64::from(state.row) - first) as usize;
-        set_row(groups, row, test.passes(&state.tuple));
+        set_row(groups, row, test.passes(values, &state.tuple));
     }
 }

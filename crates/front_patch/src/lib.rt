@@ -51,6 +51,7 @@ mod row_test;
 mod serving;
 mod taken;
 mod taking;
+mod values;
 mod walk;
 
 pub use commit_log::Memory;

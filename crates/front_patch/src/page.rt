@@ -1,7 +1,7 @@
 //! The tuples of a page at a front.
-ghost use Rattle.std.specs.Prelude.{◌≡◌, ◌+◌, ◌/◌, ◌^◌, ◌<◌, ◌≤◌, ℕ, All, AllPairs, None, false, slice_index_or};
+ghost use Rattle.std.specs.Prelude.{◌≡◌, ◌+◌, ◌^◌, ◌==◌, ◌<◌, ◌≤◌, ℕ, All, AllPairs, None, true, slice_index_or, if◌then◌else◌};
 ghost use Rattle.std.specs.Option.{option_and_then};
-ghost use Rattle.front_patch.specs.RowStates.{last_state};
+ghost use Rattle.front_patch.specs.Marks.{AreMarks, has_bit, is_marked};
 
 use crate::row_state::{RowState, state_of};
 use cubit_base::{Steps, Tuple};
@@ -16,33 +16,55 @@ pub struct PageAtFront<'t> {
     // The page's first row, and the rows of it that were changed, in rising order.
     pub(crate) first: u64,
     pub(crate) changed: &'t [RowState],
-    // The sixteens of rows of which some were changed: most rows need no search.
-    pub(crate) marks: [bool; MARKS],
+    // The rows that were changed have marks: the others need no search.
+    pub(crate) marks: [u64; MARKS],
     ghost rising: { AllPairs (λ a b. a.row < b.row) changed.now },
     ghost end: { first + 3_968 < 2 ^ 64 },
-    ghost marked: { (at : ℕ) → at < 3_968 → slice_index_or marks (at / 16) false ≡ false →
-        last_state (first + at) changed.now ≡ None },
+    ghost marked: { AreMarks marks first changed.now },
 }
 
-// How many rows have one mark, and how many marks a page has.
-const MARKED_ROWS: usize = 16;
+// How many words the marks of a page take.
+pub(crate) const MARKS: usize = 62;
 
-pub(crate) const MARKS: usize = 248;
+const _: () = prove!(64 * MARKS == 3_968);
 
-const _: () = prove!(MARKS == 248);
-
-/// Marks the sixteens of a page's rows of which some were changed.
-pub(crate) fn marks_of(changed: &[RowState], first: u64) -> [bool; MARKS]
+/// Marks the rows of a page that were changed.
+pub(crate) fn marks_of(changed: &[RowState], first: u64) -> [u64; MARKS]
     requires { All (λ s. (first ≤ s.row) × (s.row < first + 3_968)) changed.now }
-    ensures { (at : ℕ) → at < 3_968 → slice_index_or result (at / 16) false ≡ false →
-        last_state (first + at) changed.now ≡ None }
+    ensures { AreMarks result first changed.now }
 {
-    let mut marks = [false; MARKS];
+    let mut marks = [0; MARKS];
     for state in changed {
-        let place = (u64::from(state.row) - first) as usize;
-        marks[place / MARKED_ROWS] = true;
+        mark(&mut marks, (u64::from(state.row) - first) as usize);
     }
     marks
+}
+
+// Gives the row at a place a mark.
+#[inline(always)]
+fn mark(marks: &mut [u64; MARKS], at: usize)
+    requires { at < 3_968 }
+    ensures { (other : ℕ) → is_marked marks.new other ≡ (if other == at then true else is_marked marks.old other) }
+{
+    marks[at / 64] = with_bit(marks[at / 64], (at % 64) as u32);
+}
+
+// The word with the bit at a place set.
+#[inline(always)]
+fn with_bit(word: u64, place: u32) -> u64
+    requires { place < 64 }
+    ensures { (other : ℕ) → has_bit result other ≡ (if other == place then true else has_bit word other) }
+{
+    word | 1 << place
+}
+
+// Whether the row at a place has a mark.
+#[inline(always)]
+fn is_marked(marks: &[u64; MARKS], at: usize) -> bool
+    requires { at < 3_968 }
+    ensures { result ≡ is_marked marks.now at }
+{
+    marks[at / 64] >> (at % 64) & 1 == 1
 }
 
 impl<'t> PageAtFront<'t> {
@@ -55,7 +77,7 @@ impl<'t> PageAtFront<'t> {
         ensures value { result ≡ tuple_here self.now at }
         ensures reads { reads.new ≡ reads.old + 1 }
     {
-        if !self.marks[usize::from(at) / MARKED_ROWS] {
+        if !is_marked(&self.marks, usize::from(at)) {
             return held_tuple(self.page, at, reads);
         }
         self.searched(at, reads)

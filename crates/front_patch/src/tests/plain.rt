@@ -2,10 +2,11 @@
 ghost use Rattle.std.specs.Prelude.{◌≡◌, ◌≢◌, ◌⊎◌, ◌+◌, ◌*◌, ◌<◌, ◌≤◌, All, IsTrue, IfOk, IfSome, length, slice_get};
 ghost use Rattle.cubit_base.specs.LiveRow.{HasDistinctLiveKeys};
 ghost use Rattle.cubit_base.specs.Delta.{applied, IsLawful};
-ghost use Rattle.front_patch.specs.Bits.{bits_by};
+ghost use Rattle.front_patch.specs.Bits.{bits_by, passes};
 
 use crate::Memory;
 use crate::row_test::RowTest;
+use column_bins::bin_of;
 use cubit_base::{Delta, Flag, Key, LineStatus, Table, Tuple, laws};
 use fence_window::PAGE_GROUPS;
 use std::alloc::Global;
@@ -151,6 +152,20 @@ fn row_after(table: &Table, delta: &Delta, n: u32, limit: u32) -> Option<(Key, O
     table.row(n)
 }
 
+// Whether a row with this tuple, or none, passes, by its bin.
+fn passes(test: RowTest, tuple: &Option<Tuple>) -> bool
+    ensures { result ≡ passes test tuple.now }
+{
+    match (test, tuple) {
+        (RowTest::IsLive, tuple) => tuple.is_some(),
+        (RowTest::IsInBins(_, _), None) => false,
+        (RowTest::IsInBins(column, stretch), Some(tuple)) => {
+            let bin = bin_of(column, tuple);
+            stretch.first <= bin && bin < stretch.after
+        }
+    }
+}
+
 // The rows of a table that pass.
 pub(crate) fn passing(alloc: Global, table: &Table, test: RowTest) -> Result<Vec<bool>, Memory>
     ensures rows { IfOk result (λ rows. rows.items ≡ bits_by test table.now) }
@@ -159,7 +174,7 @@ pub(crate) fn passing(alloc: Global, table: &Table, test: RowTest) -> Result<Vec
     let mut rows = Vec::new(alloc);
     for n in 0..table.len() {
         let (_, tuple) = table.row(n).unwrap();
-        rows.push(test.passes(&tuple))?;
+        rows.push(passes(test, &tuple))?;
     }
     Ok(rows)
 }

@@ -1,4 +1,5 @@
-use Rattle.std.proofs.Common.{◌≡◌, ◌+◌, ◌-◌, ◌/◌, ◌∙◌, ap, sym, arith, None, true, false, get_or}
+use Rattle.std.proofs.Common.{◌≡◌, ◌+◌, ◌-◌, ◌∙◌, ap, sym, arith, None, true, false, get_or}
+use Rattle.front_patch.specs.Marks.{is_marked}
 use Rattle.front_patch.proofs.Rising.{last-absent}
 use Rattle.front_patch.proofs.page.marks_of.Goals as goal
 
@@ -10,5 +11,5 @@ returns c = λ at within unmarked.
     last-absent None (first + at) states (λ k d inside same.
     let here : (get_or states k d).row - first ≡ at = omega (arith, same) in
     let marked = c.loop-state.invariant.marked k d (omega (arith, inside, c.loop-state-test.false)) in
-    let both : true ≡ false = sym marked ∙ ap (λ n. get_or marks (n / 16) false) here ∙ unmarked in
+    let both : true ≡ false = sym marked ∙ ap (is_marked marks) here ∙ unmarked in
     cc)
