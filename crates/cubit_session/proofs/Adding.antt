@@ -1,14 +1,14 @@
 -- What a reply adds to what a worker knows.
-use Rattle.std.proofs.Common.{◌≡◌, ℕ, ◌+◌, ◌≤◌, List, [], ◌∷◌, ◌++◌, length, Result, Ok, Err, Option, Some, None, sym, refl, ap, ◌∙◌, subst, arith, length-append}
+use Rattle.std.proofs.Common.{◌≡◌, ℕ, List, [], ◌∷◌, ◌++◌, length, sym, refl, ap, ◌∙◌, arith, length-append}
 use Rattle.std.proofs.lemmas.List.{append_assoc, append-nil}
 use Rattle.cubit_base.specs.Change.{Change}
 use Rattle.cubit_base.specs.declared.delta.Delta.{Delta}
 use Rattle.commit_log.specs.Growing.{begins-length}
-use Rattle.commit_log.specs.Log.{Terms, IsWhole}
-use Rattle.commit_log.specs.Handle.{Handle, Begins, Grows, SeesMore, ReadsOn, with_look, mine, places_by}
+use Rattle.commit_log.specs.Log.{Terms}
+use Rattle.commit_log.specs.Handle.{Handle, Begins, Grows, ReadsOn, with_look, mine}
 use Rattle.table_ops.specs.declared.outcome.Placed.{Placed}
 use Rattle.table_ops.specs.declared.outcome.OpStop.{OpStop}
-use Rattle.table_ops.specs.Changed.{IsChanged, IsPlaced, IsStopped, stop_front}
+use Rattle.table_ops.specs.Changed.{IsPlaced, IsStopped, stop_front}
 use Rattle.cubit_session.specs.Run.{Mark, NeverFall, mark_behind, mark_at}
 use Rattle.cubit_session.specs.Step.{AddsTo}
 

@@ -1,6 +1,6 @@
 -- Replies that answer their commands.
-use Rattle.std.proofs.Common.{◌≡◌, ℕ, ◌+◌, ◌≤◌, ◌<◌, List, [], ◌∷◌, ◌++◌, length, take, slice_get, Result, Ok, Err, Option, Some, None, sym, refl, ap, ◌∙◌, subst, arith, length-append, get_or}
-use Rattle.std.proofs.lemmas.List.{get_or_append_left, get_or_push, take_all, take-append-le}
+use Rattle.std.proofs.Common.{◌≡◌, ℕ, ◌≤◌, List, [], ◌∷◌, ◌++◌, length, slice_get, Some, sym, refl, ap, ◌∙◌, subst, arith, length-append, get_or}
+use Rattle.std.proofs.lemmas.List.{get_or_append_left, get_or_push, take_all}
 use Rattle.std.proofs.lemmas.Option.{slice_get_within, slice_get-get_or, get_or_from_slice_get}
 use Rattle.cubit_base.specs.Change.{Change, Outcome, outcome}
 use Rattle.cubit_base.specs.Change as changes
@@ -11,8 +11,7 @@ use Rattle.commit_log.specs.Log.{Terms}
 use Rattle.commit_log.specs.Handle.{Handle, Begins, with_look}
 use Rattle.table_ops.specs.declared.outcome.Placed.{Placed}
 use Rattle.table_ops.specs.declared.outcome.OpStop.{OpStop}
-use Rattle.table_ops.specs.declared.outcome.OpStop.TheVariants as stop
-use Rattle.table_ops.specs.Changed.{IsChanged, IsPlaced, IsStopped, stop_front, stop_outcome, outcome_after}
+use Rattle.table_ops.specs.Changed.{IsPlaced, IsStopped, stop_front, stop_outcome, outcome_after}
 use Rattle.cubit_session.specs.Run.{Setting, Stands, Tells, outcome_at}
 use Rattle.cubit_session.specs.Step.{setting_of}
 

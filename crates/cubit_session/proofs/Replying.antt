@@ -1,5 +1,5 @@
 -- What each reply tells.
-use Rattle.std.proofs.Common.{Bool, true, false, ◌≡◌, ℕ, ◌+◌, ◌≤◌, List, [], ◌∷◌, ◌++◌, length, take, map, flat_map, Result, Ok, Err, Option, Some, None, sym, refl, ap, ◌∙◌, subst, arith}
+use Rattle.std.proofs.Common.{Bool, true, false, ◌≡◌, ℕ, ◌+◌, List, [], ◌∷◌, length, take, map, flat_map, Ok, Err, Option, Some, None, sym, refl, ap, ◌∙◌, subst, arith}
 use Rattle.std.proofs.lemmas.List.{take_all}
 use Rattle.std.proofs.lemmas.Option.{none-some}
 use Rattle.std.specs.Option.{unwrap_or}
@@ -14,19 +14,16 @@ use Rattle.cubit_base.specs.declared.delta.Delta.{Delta}
 use Rattle.cubit_base.specs.declared.command.Command.{Command}
 use Rattle.cubit_base.specs.declared.predicate.Predicate.{Predicate}
 use Rattle.cubit_base.specs.declared.command.Command.TheVariants.{Insert, Update, Delete, DropOrder, Lookup, Rows, Count, Sum, Q6, Merge}
-use Rattle.commit_log.specs.Growing.{begins-length, take-begins}
 use Rattle.commit_log.specs.Log.{Terms}
-use Rattle.commit_log.specs.Handle.{Handle, Begins, Grows, with_look}
+use Rattle.commit_log.specs.Handle.{Handle, Grows}
 use Rattle.commit_log.specs.declared.front.Front.{Front}
-use Rattle.table_ops.specs.declared.outcome.Placed.{Placed}
-use Rattle.table_ops.specs.declared.outcome.OpStop.{OpStop}
 use Rattle.table_ops.specs.declared.outcome.OpStop.TheVariants as stop
 use Rattle.selection.specs.Answered.{IsAnswered}
 use Rattle.query_report.specs.declared.reply.DropLine.{DropLine}
 use Rattle.query_report.specs.declared.reply.DropLine.TheVariants as line
 use Rattle.query_report.specs.declared.reply.Reply.{Reply}
 use Rattle.query_report.specs.declared.reply.Reply.TheVariants as reply
-use Rattle.cubit_session.specs.Run.{Setting, Answers, Tells, TellsLines, TellsAnswer, outcome_reply, outcome_line, live_reply, mark_at, line_mark, line_places, marks_of, places_of, table_at}
+use Rattle.cubit_session.specs.Run.{Answers, Tells, TellsLines, TellsAnswer, outcome_reply, outcome_line, live_reply, mark_at, line_mark, line_places, marks_of, places_of, table_at}
 use Rattle.cubit_session.specs.Step.{Told, RepliesToChange, DropsLine, Drops, LooksUp, Reads, Replies, AddsTo, found_reply, setting_of}
 use Rattle.cubit_session.proofs.Adding.{adds-on, adds-none, adds-front, adds-nothing, adds-placed, adds-stopped, reads-grow}
 use Rattle.cubit_session.proofs.Answering.{tells-placed, tells-stopped, tells-later}
@@ -170,14 +167,15 @@ adds-found : (terms : Terms) (key : KeyValue) (before now : Told) (told : Reply)
     Adds before now told
 adds-found terms key before now told looks =
     by looks.found looks.reply_is looks.is_found.whole.whole where
-    grows : Grows before.log now.log
-    grows = record { begins = looks.more.begins; author = ap (λ (h : Handle). h.author) looks.more.is }
-    by : (found : Front × Option (ℕ × TupleValue)) → told ≡ found_reply found → found.0.len ≡ length now.log.seen →
-        Adds before now told
-    by (front, None) is whole =
-        subst (Adds before now) (sym is) (adds-front before.log now.log front.len grows looks.more.mine whole)
-    by (front, Some (row, tuple)) is whole =
-        subst (Adds before now) (sym is) (adds-front before.log now.log front.len grows looks.more.mine whole)
+      grows : Grows before.log now.log
+      grows = record { begins = looks.more.begins; author = ap (λ (h : Handle). h.author) looks.more.is }
+
+      by : (found : Front × Option (ℕ × TupleValue)) → told ≡ found_reply found → found.0.len ≡ length now.log.seen →
+          Adds before now told
+      by (front, None) is whole =
+          subst (Adds before now) (sym is) (adds-front before.log now.log front.len grows looks.more.mine whole)
+      by (front, Some (row, tuple)) is whole =
+          subst (Adds before now) (sym is) (adds-front before.log now.log front.len grows looks.more.mine whole)
 
 -- queries
 module _ (terms : Terms) (pages tries : ℕ) (p : Predicate) (sum : Bool) (before now : Told) (front : Front)

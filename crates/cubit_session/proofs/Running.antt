@@ -1,12 +1,11 @@
 -- One command more of a run.
-use Rattle.std.proofs.Common.{◌≡◌, ℕ, zero, suc, ◌+◌, ◌-◌, ◌≤◌, ◌<◌, List, [], ◌∷◌, ◌++◌, length, take, map, flat_map, replicate, nat_lt, Option, Some, None, refl, sym, ap, ◌∙◌, subst, arith}
+use Rattle.std.proofs.Common.{◌≡◌, ℕ, zero, suc, ◌+◌, ◌-◌, ◌≤◌, ◌<◌, List, [], ◌∷◌, ◌++◌, length, flat_map, replicate, nat_lt, Some, refl, sym, ap, ◌∙◌, subst, arith}
 use Rattle.std.specs.List.{AllZip}
 use Rattle.std.proofs.lemmas.List.{append-nil}
 use Rattle.std.proofs.lemmas.Bool.{cond-true, lt-ltb}
 use Rattle.std.proofs.lemmas.Grind.{flat_map-append}
 use Rattle.cubit_base.specs.Answer.{Answer, answer}
 use Rattle.cubit_base.specs.Change as changes
-use Rattle.cubit_base.specs.Key.{KeyValue}
 use Rattle.cubit_base.specs.LiveRow.{live_row}
 use Rattle.cubit_base.specs.History.{after}
 use Rattle.cubit_base.specs.declared.delta.Delta.{Delta}

@@ -1,5 +1,5 @@
 -- How many deltas a command may place.
-use Rattle.std.proofs.Common.{◌≡◌, ℕ, ◌+◌, ◌-◌, ◌≤◌, List, [], ◌∷◌, Result, Ok, Err, ap, ◌∙◌, sym, arith}
+use Rattle.std.proofs.Common.{ℕ, ◌+◌, ◌≤◌, List, [], ◌∷◌, Result, Ok, Err, ap, arith}
 use Rattle.cubit_base.specs.Change.{Change}
 use Rattle.cubit_base.specs.Change as changes
 use Rattle.cubit_base.specs.Command.{weight_of}

@@ -1,11 +1,11 @@
 -- A worker alone on its log ran a whole run.
-use Rattle.std.proofs.Common.{◌≡◌, ◌≢◌, ℕ, zero, suc, ◌+◌, ◌≤◌, ◌<◌, ◌==◌, Bool, true, false, List, [], ◌∷◌, ◌++◌, length, map, flat_map, filter, All, if◌then◌else◌, refl, sym, ap, ◌∙◌, subst, arith}
+use Rattle.std.proofs.Common.{◌≡◌, ℕ, zero, suc, ◌+◌, ◌<◌, ◌==◌, false, List, [], ◌∷◌, ◌++◌, length, map, flat_map, filter, All, refl, sym, ap, ◌∙◌, subst, arith}
 use Rattle.std.specs.List.{AllZip, enumerate_from, slice_index_or}
 use Rattle.std.proofs.lemmas.Bool.{cond-false}
 use Rattle.cubit_base.specs.declared.delta.Delta.{Delta}
 use Rattle.cubit_base.specs.declared.command.Command.{Command}
 use Rattle.commit_log.specs.Log.{Terms, IsLog}
-use Rattle.commit_log.specs.Handle.{Handle, mine, places_by}
+use Rattle.commit_log.specs.Handle.{Handle, places_by}
 use Rattle.query_report.specs.declared.reply.Reply.{Reply}
 use Rattle.query_report.specs.ReplyTable.{replies_of}
 use Rattle.cubit_session.specs.Run.{Setting, Answers, IsPart, IsRun, NeverFall, marks_of, places_of}

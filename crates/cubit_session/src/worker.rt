@@ -4,15 +4,20 @@ ghost use Rattle.cubit_base.specs.Command.{weight_of};
 ghost use Rattle.cubit_base.specs.declared.command.Command.TheVariants.{DropOrder};
 ghost use Rattle.refresh_streams.specs.Script.{DropsSomeOrder};
 ghost use Rattle.version_store.specs.Store.{IsStanding};
-ghost use Rattle.cubit_session.specs.Step.{IsStep, Replies, DropsLine, change_reply, found_reply, told_by};
+ghost use Rattle.cubit_session.specs.Step.{IsStep, Replies, DropsLine, told_by};
 
-use commit_log::{CommitLog, Front};
-use cubit_base::{Command, Key, Memory, Steps, Tuple};
+use crate::replies::{
+    change_reply, count_reply, found_reply, merge_reply, q6_reply, rows_reply, sum_reply,
+};
+use commit_log::CommitLog;
+use cubit_base::{Command, Key, Memory, Steps};
+use merger::merge_all;
 use query_report::{DropLine, Reply};
+use selection::{count, rows, sum};
 use std::alloc::Global;
 use std::marker::{Brand, Model};
 use std::sync::ledger::{Blank, Ledger};
-use table_ops::{OpStop, Placed, delete, insert, lookup, update};
+use table_ops::{OpStop, delete, insert, lookup, update};
 use unit_version::Base;
 use version_store::VersionStore;
 
@@ -102,48 +107,15 @@ impl<S: VersionStore> Worker<S> {
             Command::Delete(key) => Ok(change_reply(delete(log, store, base, key, tries, steps))),
             Command::DropOrder(order) => Ok(self.drop_order(base, *order, tries, steps)),
             Command::Lookup(key) => Ok(found_reply(lookup(log, store, base, key, tries, steps))),
-            Command::Rows(p) => {
-                let a = selection::rows(alloc, log, store, base, p, tries, steps, reads)?;
-                Ok(Reply::Rows {
-                    front: a.front.len,
-                    list: a.list,
-                    patched: a.patched,
-                })
-            }
-            Command::Count(p) => {
-                let a = selection::count(alloc, log, store, base, p, tries, steps, reads)?;
-                Ok(Reply::Count {
-                    front: a.front.len,
-                    count: a.count,
-                    patched: a.patched,
-                })
-            }
-            Command::Sum(p) => {
-                let a = selection::sum(alloc, log, store, base, p, tries, steps, reads)?;
-                Ok(Reply::Sum {
-                    front: a.front.len,
-                    count: a.count,
-                    sum: a.sum,
-                    patched: a.patched,
-                })
-            }
-            Command::Q6(p) => {
-                let a = selection::sum(alloc, log, store, base, p, tries, steps, reads)?;
-                Ok(Reply::Q6 {
-                    front: a.front.len,
-                    count: a.count,
-                    sum: a.sum,
-                    patched: a.patched,
-                })
-            }
-            Command::Merge => {
-                let count = merger::merge_all(alloc, log, store, base, tries, steps)?;
-                Ok(Reply::Merge {
-                    merged: count.merged,
-                    fresh: count.fresh,
-                    busy: count.busy,
-                })
-            }
+            Command::Rows(p) => rows(alloc, log, store, base, p, tries, steps, reads).map(
+                rows_reply,
+            ),
+            Command::Count(p) => count(alloc, log, store, base, p, tries, steps, reads).map(
+                count_reply,
+            ),
+            Command::Sum(p) => sum(alloc, log, store, base, p, tries, steps, reads).map(sum_reply),
+            Command::Q6(p) => sum(alloc, log, store, base, p, tries, steps, reads).map(q6_reply),
+            Command::Merge => merge_all(alloc, log, store, base, tries, steps).map(merge_reply),
         }
     }
 
@@ -200,36 +172,5 @@ impl<S: VersionStore> Worker<S> {
             Err(OpStop::LogFull(front)) => DropLine::LogFull(front.len),
             Err(_) => unreachable!(),
         }
-    }
-}
-
-// The reply that tells what a change came to.
-fn change_reply(change: Result<Placed, OpStop>) -> Reply
-    ensures { result ≡ change_reply change }
-{
-    match change {
-        Ok(Placed { place, row, .. }) => Reply::Placed { place, row },
-        Err(OpStop::Duplicate(front, row)) => Reply::Duplicate {
-            front: front.len,
-            row,
-        },
-        Err(OpStop::Missing(front)) => Reply::Missing { front: front.len },
-        Err(OpStop::TableFull(front)) => Reply::TableFull { front: front.len },
-        Err(OpStop::LogFull(front)) => Reply::LogFull { front: front.len },
-    }
-}
-
-// The reply that tells a key's live row.
-fn found_reply(found: (Front, Option<(u32, Tuple)>)) -> Reply
-    ensures { result ≡ found_reply found }
-{
-    let (front, live) = found;
-    match live {
-        Some((row, tuple)) => Reply::Found {
-            front: front.len,
-            row,
-            tuple,
-        },
-        None => Reply::Absent { front: front.len },
     }
 }

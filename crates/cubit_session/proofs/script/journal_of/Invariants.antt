@@ -1,5 +1,5 @@
 use Rattle.std.proofs.Common.{◌≡◌, ◌-◌, ◌≤◌}
-use Rattle.commit_log.specs.Log.{IsLog, Stands, IsPlace, between}
+use Rattle.commit_log.specs.Log.{Stands, IsPlace, between}
 use Rattle.commit_log.specs.Serial.{serial_terms}
 use Rattle.cubit_session.proofs.script.journal_of.Given as goal
 

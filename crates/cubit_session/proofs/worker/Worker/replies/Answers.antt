@@ -1,4 +1,4 @@
-use Rattle.std.proofs.Common.{◌≡◌, ◌∙◌, sym, ap, subst, arith}
+use Rattle.std.proofs.Common.{◌∙◌, sym, ap, subst, arith}
 use Rattle.std.specs.Option.{option_copied}
 use Rattle.cubit_session.specs.Run.{Answers}
 use Rattle.cubit_session.specs.Step.{told_by, setting_of}

@@ -1,4 +1,4 @@
-use Rattle.std.proofs.Common.{◌≡◌, ◌≤◌, take, drop}
+use Rattle.std.proofs.Common.{◌≤◌, take, drop}
 use Rattle.wah_words.specs.Place.{page_count}
 use Rattle.version_store.specs.Store.{IsStanding}
 use Rattle.refresh_streams.specs.Script.{weights}
