@@ -1,6 +1,6 @@
 /*
- * Reads a script of commands with every check of its grammar, and the refresh files that it names, as C++ that is
- * written with care but without instructions written by hand. It prints how many commands there are and the checksum
+ * Reads a script of commands with every check of its grammar, and the refresh files that it names: most lines in one
+ * pass over their bytes, the others field by field. It prints how many commands there are and the checksum
  * that script_bench prints, and on demand the time of the fastest of its rounds.
  *
  * script SCRIPT ROUNDS [--times]
@@ -11,9 +11,11 @@
 #include <cstdlib>
 #include <cstring>
 #include <fcntl.h>
+#include <memory>
 #include <optional>
 #include <string>
 #include <string_view>
+#include <sys/stat.h>
 #include <unistd.h>
 #include <vector>
 
@@ -262,17 +264,117 @@ static string_view line_of(string_view &rest)
     return line;
 }
 
-static std::vector<char> whole(const std::string &name)
+/* All bytes of a file, with a zero behind them, which ends each loop over them. */
+struct Bytes {
+    std::unique_ptr<char[]> bytes;
+    size_t size = 0;
+    explicit Bytes(const std::string &name)
+    {
+        int file = open(name.c_str(), O_RDONLY);
+        struct stat about;
+        if (file < 0 || fstat(file, &about) != 0)
+            exit(3);
+        bytes.reset(new char[size_t(about.st_size) + 1]);
+        for (ssize_t count; (count = read(file, bytes.get() + size, size_t(about.st_size) - size)) > 0;)
+            size += size_t(count);
+        bytes[size] = 0;
+        close(file);
+    }
+};
+
+/* ---- what most lines are, read in one pass; any other line is left to the careful functions */
+
+static inline bool number_at(const char *&at, uint64_t &number)
 {
-    int file = open(name.c_str(), O_RDONLY);
-    if (file < 0)
-        exit(3);
-    std::vector<char> bytes;
-    char piece[65536];
-    for (ssize_t count; (count = read(file, piece, sizeof piece)) > 0;)
-        bytes.insert(bytes.end(), piece, piece + count);
-    close(file);
-    return bytes;
+    const char *first = at;
+    uint64_t sum = 0;
+    for (unsigned digit; (digit = unsigned(*at) - '0') < 10; at++)
+        sum = sum * 10 + digit;
+    number = sum;
+    return at != first && at - first <= 10;
+}
+
+static inline bool money_at(const char *&at, uint64_t most, uint64_t &number)
+{
+    if (!number_at(at, number))
+        return false;
+    number *= 100;
+    if (*at == '.') {
+        unsigned tens = unsigned(at[1]) - '0';
+        if (tens > 9)
+            return false;
+        number += tens * 10;
+        at += 2;
+        if (unsigned ones = unsigned(*at) - '0'; ones < 10)
+            number += ones, at++;
+    }
+    return number <= most;
+}
+
+static inline bool date_at(const char *&at, uint64_t &day)
+{
+    auto date = date_of(string_view(at, 10));
+    at += 10;
+    day = date.value_or(0);
+    return date.has_value();
+}
+
+/* The seven values of a tuple between these separators. */
+static inline bool values_at(const char *&at, char separator, const char *end, Tuple &tuple)
+{
+    uint64_t qty, price, disc, tax, day;
+    if (!number_at(at, qty) || qty < 1 || qty > 50 || *at++ != separator || !money_at(at, 99999999, price)
+        || *at++ != separator || !money_at(at, 10, disc) || *at++ != separator || !money_at(at, 8, tax)
+        || *at++ != separator || end - at < 14)
+        return false;
+    int flag = at[0] == 'A' ? 0 : at[0] == 'N' ? 1 : at[0] == 'R' ? 2 : -1;
+    int status = at[2] == 'F' ? 0 : at[2] == 'O' ? 1 : -1;
+    if (flag < 0 || status < 0 || at[1] != separator || at[3] != separator)
+        return false;
+    at += 4;
+    if (!date_at(at, day))
+        return false;
+    tuple = {uint32_t(price), uint16_t(day), uint8_t(qty), uint8_t(disc), uint8_t(tax), uint8_t(flag), uint8_t(status)};
+    return true;
+}
+
+static inline bool ends_at(const char *at, const char *end)
+{
+    return at == end || *at == '\n' || (*at == '\r' && (at + 1 == end || at[1] == '\n'));
+}
+
+/* An insert or an update, from behind its verb to its line's end. */
+static inline bool change_at(const char *at, const char *end, Key &key, Tuple &tuple)
+{
+    uint64_t order, line;
+    if (!number_at(at, order) || order < 1 || order > 4294967295 || *at++ != ' ' || !number_at(at, line) || line < 1
+        || line > 7 || *at++ != ' ' || !values_at(at, ' ', end, tuple) || !ends_at(at, end))
+        return false;
+    key = {uint32_t(order), uint8_t(line)};
+    return true;
+}
+
+static inline bool text_at(const char *&at)
+{
+    while (*at != '|') {
+        if (*at < 32 || *at > 126)
+            return false;
+        at++;
+    }
+    return true;
+}
+
+/* A row of a table, up to its line's end. */
+static inline bool row_at(const char *at, const char *end, Key &key, Tuple &tuple)
+{
+    uint64_t order, line;
+    if (!number_at(at, order) || order < 1 || order > 4294967295 || *at++ != '|' || !text_at(at) || !text_at(++at)
+        || !number_at(++at, line) || line < 1 || line > 7 || *at++ != '|' || !values_at(at, '|', end, tuple)
+        || *at++ != '|' || !text_at(at) || !text_at(++at) || !text_at(++at) || !text_at(++at) || !text_at(++at)
+        || !ends_at(++at, end))
+        return false;
+    key = {uint32_t(order), uint8_t(line)};
+    return true;
 }
 
 static bool is_text(string_view field)
@@ -318,14 +420,18 @@ static int row_of(string_view line, Key &key, Tuple &tuple)
 
 static int refresh(const std::string &name, bool inserts, std::vector<Command> &commands)
 {
-    std::vector<char> bytes = whole(name);
-    for (string_view rest(bytes.data(), bytes.size()); !rest.empty();) {
+    Bytes file(name);
+    const char *end = file.bytes.get() + file.size;
+    commands.reserve(commands.size() + file.size / (inserts ? 110 : 5));
+    for (string_view rest(file.bytes.get(), file.size); !rest.empty();) {
+        const char *at = rest.data();
         string_view line = line_of(rest);
         if (inserts) {
             Key key;
             Tuple tuple;
-            if (int fault = row_of(line, key, tuple))
-                return fault;
+            if (!row_at(at, end, key, tuple))
+                if (int fault = row_of(line, key, tuple))
+                    return fault;
             commands.emplace_back(Kind::Insert, key, tuple);
         } else {
             if (!line.empty() && line.back() == '|')
@@ -392,17 +498,27 @@ static uint32_t weight_of(Kind kind)
 
 static std::vector<Command> script_of(const std::string &name)
 {
-    std::vector<char> bytes = whole(name);
+    Bytes file(name);
+    const char *end = file.bytes.get() + file.size;
     std::vector<Command> commands;
+    commands.reserve(file.size / 40);
     uint64_t weight = 0;
     size_t weighed = 0;
     uint32_t number = 0;
-    for (string_view rest(bytes.data(), bytes.size()); !rest.empty();) {
+    for (string_view rest(file.bytes.get(), file.size); !rest.empty();) {
+        const char *at = rest.data();
         string_view line = line_of(rest);
         number++;
         if (line.empty() || line[0] == '#')
             continue;
-        int fault = command_of(line, commands);
+        int fault = 0;
+        bool update = line.size() > 7 && memcmp(at, "update ", 7) == 0;
+        Key key;
+        Tuple tuple;
+        if ((update || (line.size() > 7 && memcmp(at, "insert ", 7) == 0)) && change_at(at + 7, end, key, tuple))
+            commands.emplace_back(update ? Kind::Update : Kind::Insert, key, tuple);
+        else
+            fault = command_of(line, commands);
         for (; weighed < commands.size(); weighed++)
             weight += weight_of(commands[weighed].kind);
         if (fault || weight > 4194304) {
