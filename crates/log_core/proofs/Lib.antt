@@ -8,6 +8,7 @@ pub mod Links
 pub mod Looks
 pub mod Made
 pub mod Nodes
+pub mod Runs
 pub mod Same
 pub mod Stores
 pub mod Tables

@@ -4,10 +4,12 @@ ghost use Rattle.cubit_base.specs.Tuple.{TupleValue};
 ghost use Rattle.cubit_base.specs.LiveRow.{IsFree};
 ghost use Rattle.cubit_base.specs.Delta.{IsInsert, IsLawful, is_insert};
 ghost use Rattle.cubit_base.specs.History.{after, rows_after};
-ghost use Rattle.log_core.specs.Chain.{entry_count, delta_at};
+ghost use Rattle.log_core.specs.EntryWords.{FitsWords};
+ghost use Rattle.log_core.specs.Chain.{delta_count, entry_count, delta_at};
+ghost use Rattle.log_core.specs.Steps.{MayComeNext};
 
 use super::Core;
-use cubit_base::{Delta, Key, Tuple, laws};
+use cubit_base::{Delta, Entry, Key, Tuple, laws};
 
 type Row = (Key, Option<Tuple>);
 
@@ -74,6 +76,29 @@ impl Core {
     {
         laws::deltas();
         self.rows_behind(place) + rows_added(delta)
+    }
+
+    /// The entry with this delta, where that may come next of all.
+    pub(crate) fn next_entry(&self, party: u8, delta: &Delta) -> Entry
+        requires party { party < length self.now.parties }
+        requires author { delta.now.author ≡ party }
+        requires room { delta_count self.now.chain.history < self.now.terms.limits.log_limit }
+        requires lawful { IsLawful self.now.terms.limits.row_limit
+            (after self.now.terms.base self.now.chain.history) delta.now }
+        ensures fits { FitsWords result }
+        ensures next { MayComeNext self.now party (entry_count self.now.chain.history) result }
+        ensures delta { result.delta ≡ delta.now }
+    {
+        laws::deltas();
+        laws::rows();
+        laws::histories();
+        self.is_sound();
+        let place = self.len();
+        Entry {
+            seq: place + 1,
+            rows: self.rows_with(place, delta),
+            delta: Delta { ..*delta },
+        }
     }
 
     // A row behind a place, or none past the last one.
