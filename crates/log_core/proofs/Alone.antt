@@ -14,13 +14,13 @@ use Rattle.log_core.proofs.Nodes.{one-place}
 use Rattle.log_core.proofs.Grown.{last-by-tail}
 
 module _ (c : CoreValue) (s : IsSound c) (p : ℕ) (inp : p < length c.parties) where
-  abbrev place : ℕ
+  abbrev pub place : ℕ
   place = c.chain.tail_place
 
-  abbrev after_tail : CoreValue
+  abbrev pub after_tail : CoreValue
   after_tail = with_party c p (tail_loaded c (party c p))
 
-  abbrev after_link : CoreValue
+  abbrev pub after_link : CoreValue
   after_link = sees_next after_tail p place
 
   inp' : p < length after_tail.parties

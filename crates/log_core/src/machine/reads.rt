@@ -132,6 +132,7 @@ impl Core {
         requires node { (party_of self.now party).used < share self.now.terms party }
         ensures { IsNextNode self.now party result }
     {
+        self.is_sound();
         let party = usize::from(party);
         self.first_node(party) + self.party(party).used
     }
