@@ -18,6 +18,9 @@ use Rattle.log_core.proofs.Ends.{end_at-within, end_at-last, end_at-kept, end_at
 use Rattle.log_core.proofs.Nodes.{last-link, empty-last, place-before}
 use Rattle.log_core.proofs.Bounds.{node-words, next-words}
 use Rattle.log_core.proofs.Keeping.{keeps-sound}
+use Rattle.log_core.proofs.Runs.{runs-join, runs-sound}
+use Rattle.log_core.proofs.Alone.{after_tail, after_link, link-seen, link-reached, runs-loads}
+use Rattle.log_core.proofs.Grown.{last-by-tail}
 
 -- a core in which the party's next node may take an entry behind the last node
 pub record IsReady (x : CoreValue) (p n : ℕ) (e : Entry) : Type 0 where
@@ -138,6 +141,86 @@ module _ (c : CoreValue) (s : IsSound c) (p n : ℕ) (inp : p < length c.parties
   pub stored-link : (m : ℕ) → link words m ≡ link c.words m
   stored-link m = elsewhere (link_place m) (λ w small e. absurd (omega arith))
 
+-- a core that has the same chain, in which all is ready for the link
+pub record CanAppend (x z : CoreValue) (p n : ℕ) (e : Entry) : Type 0 where
+  pub nodes : z.chain.nodes ≡ x.chain.nodes
+  pub history : z.chain.history ≡ x.chain.history
+  pub party : p < length z.parties
+  pub ready : IsReady z p n e
+  pub has : HasEntry z.words n e
+  pub seen : length z.chain.history ≤ (party z p).seen
+  pub reached : length z.chain.history ≤ (party z p).reached
+
+-- a late tail is moved on
+module _ (x : CoreValue) (s : IsSound x) (p n t : ℕ) (inp : p < length x.parties) (e : Entry) (ready : IsReady x p n e)
+    (has : HasEntry x.words n e) (tail_is : tail x.words ≡ t) (seen : length x.chain.history ≤ (party x p).seen)
+    (reached : tail_end x ≤ (party x p).reached) where
+  abbrev place : ℕ
+  place = x.chain.tail_place
+
+  tail-at-place : IsNodeAt x.chain t place
+  tail-at-place = record {
+    within = let count = s.linked.count in let within = s.tail.within in omega arith;
+    is = sym s.tail.is ∙ tail_is;
+  }
+
+  abbrev moved : ℕ → CoreValue
+  moved m = tail_moved x p m place
+
+  end-behind : end_at x.chain.history (place + 1) ≡ length x.chain.history
+  end-behind = let late = s.tail.late in end_at-last x.chain.history (place + 1) (omega arith)
+
+  may-help : (m : ℕ) → link x.words t ≡ suc m → MayMoveTail x p t (suc m) place
+  may-help m link_is = record {
+    at = tail-at-place;
+    reached = reached;
+    link = link_is;
+    set = λ zero. absurd (omega arith);
+    seen = omega (arith, seen, end-behind);
+  }
+
+  moved-party : (m : ℕ) → party (moved m) p ≡ reaches (party x p) (end_at x.chain.history (place + 1))
+  moved-party m =
+      get_or-set_same x.parties p (reaches (party x p) (end_at x.chain.history (place + 1))) newcomer inp
+
+  moved-word : (m w : ℕ) → payload (moved m).words n w ≡ payload x.words n w
+  moved-word m w = get_or-set_other x.words 0 (payload_place n w) m 0 (λ e. absurd (omega arith))
+
+  moved-appends : (m : ℕ) → CanAppend x (moved m) p n e
+  moved-appends m = record {
+    nodes = refl;
+    history = refl;
+    party = omega (arith, inp, length-set x.parties p (reaches (party x p) (end_at x.chain.history (place + 1))));
+    ready = same-ready x p n e (set x.words 0 m) (place + 1) x.noted
+        (reaches (party x p) (end_at x.chain.history (place + 1))) inp refl ready;
+    has = record { fits = has.fits; payload = λ w small. moved-word m w ∙ has.payload w small };
+    seen = omega (arith, seen, ap (λ (q : Party). q.seen) (moved-party m));
+    reached = omega (arith, end-behind, ap (λ (q : Party). q.reached) (moved-party m));
+  }
+
+  pub runs-help : (m : ℕ) → link x.words t ≡ m →
+      (z : CoreValue) × RunsAlone x p (helps t m) (helped m) z × CanAppend x z p n e
+  runs-help zero link_is =
+      let last = empty-last x.terms x.words x.chain s.linked s.filled t place tail-at-place link_is in
+      let end = end_at-last x.chain.history place (omega arith) in (
+        x,
+        refl,
+        record {
+          nodes = refl;
+          history = refl;
+          party = inp;
+          ready = ready;
+          has = has;
+          seen = seen;
+          reached = omega (arith, reached);
+        },
+      )
+  runs-help (suc m) link_is = (
+    moved (suc m),
+    (moved (suc m), record { party = inp; gives = (place, may-help m link_is, inl (tail_is, refl, refl)) }, refl),
+    moved-appends (suc m),
+  )
+
 -- where the party has seen all, and the tail at the last node, its stored node can be appended
 module _ (x : CoreValue) (s : IsSound x) (p n : ℕ) (inp : p < length x.parties) (e : Entry) (ready : IsReady x p n e)
     (has : HasEntry x.words n e) (seen : length x.chain.history ≤ (party x p).seen)
@@ -227,3 +310,17 @@ module _ (x : CoreValue) (s : IsSound x) (p n : ℕ) (inp : p < length x.parties
   pub appended-tail : tail appended.words ≡ n
   appended-tail =
       let a = sound-longer.word_count in get_or-set_same longer.words 0 n 0 (omega arith)
+
+-- the whole, stage by stage
+pub record Stages (c : CoreValue) (p n t m last : ℕ) (e : Entry) : Type 0 where
+  pub stored : CoreValue
+  pub loaded : CoreValue
+  pub helped_on : CoreValue
+  pub appended_to : CoreValue
+  pub stores : RunsAlone c p (stores n e) (Done ∷ Done ∷ Done ∷ Done ∷ []) stored
+  pub loads : RunsAlone stored p (loads t) (Value t ∷ Value m ∷ []) loaded
+  pub helps : RunsAlone loaded p (helps t m) (helped m) helped_on
+  pub appends : RunsAlone helped_on p (appends last n) (Swapped true ∷ Swapped true ∷ []) appended_to
+  pub history : appended_to.chain.history ≡ c.chain.history ++ e.delta ∷ []
+  pub nodes : appended_to.chain.nodes ≡ c.chain.nodes ++ n ∷ []
+  pub tail : tail appended_to.words ≡ n

@@ -4,7 +4,7 @@ use Rattle.log_core.specs.declared.step.Step.{Step}
 use Rattle.log_core.specs.declared.step.Seen.{Seen}
 use Rattle.log_core.specs.Core.{CoreValue, IsSound}
 use Rattle.log_core.specs.Steps.{TakesStep, IsLawfulStep}
-use Rattle.log_core.specs.Run.{RunsAlone, IsLawfulRun}
+use Rattle.log_core.specs.Run.{RunsAlone, IsLawfulRun, EndsIn}
 use Rattle.log_core.proofs.Entries.{TellsTuple}
 use Rattle.log_core.proofs.Keeping.{keeps-sound}
 use Rattle.log_core.proofs.Same.{takes-one}
@@ -56,3 +56,13 @@ goes-next tells core here there p steps left rest step seen sound goes is takes 
     let g = goes answers next r in
     rest-runs tells p here there next step seen rest g.0 sound takes
     (subst (λ s. RunsAlone here p s g.0 next) is g.1)
+
+-- steps from a core that is known
+pub known-lawful : (p : ℕ) (x y z : CoreValue) (steps : List Step) (answers : List Seen) → y ≡ x →
+    RunsAlone x p steps answers z → IsLawfulRun y p steps
+known-lawful p x y z steps answers is r = (answers, z, subst (λ w. RunsAlone w p steps answers z) (sym is) r)
+
+pub known-end : (p : ℕ) (x y z w : CoreValue) (steps : List Step) (answers : List Seen) → y ≡ x →
+    RunsAlone x p steps answers z → EndsIn y p steps w → w ≡ z
+known-end p x y z w steps answers is r ends =
+    ends answers z (subst (λ v. RunsAlone v p steps answers z) (sym is) r)

@@ -1,6 +1,7 @@
 //! Whether a delta is lawful behind a place of the chain.
-ghost use Rattle.std.specs.Prelude.{◌≡◌, ◌≢◌, ℕ, if◌then◌else◌, ◌≤◌, ◌<◌, length, take, [], ◌∷◌, ◌++◌, slice_get, Some, None, IsTrue, ◌↔◌};
-ghost use Rattle.cubit_base.specs.Tuple.{TupleValue};
+ghost use Rattle.std.specs.Prelude.{◌≡◌, ◌≢◌, ℕ, if◌then◌else◌, ◌≤◌, ◌<◌, ◌^◌, length, take, [], ◌∷◌, ◌++◌, slice_get, Some, None, IfSome, IsTrue, ◌↔◌};
+ghost use Rattle.cubit_base.specs.Key.{IsKey};
+ghost use Rattle.cubit_base.specs.Tuple.{TupleValue, IsTuple};
 ghost use Rattle.cubit_base.specs.LiveRow.{IsFree};
 ghost use Rattle.cubit_base.specs.Delta.{IsInsert, IsLawful, is_insert};
 ghost use Rattle.cubit_base.specs.History.{after, rows_after};
@@ -29,6 +30,36 @@ fn is_live(row: &Option<Row>, key: &Key) -> bool
         Some((k, Some(_))) => k == key,
         _ => false,
     }
+}
+
+// A key, a tuple, and those of a delta are within their ranges. These do nothing: where they are called, that is known.
+fn is_key(key: &Key)
+    ensures key { IsKey key.now }
+    ensures order { key.now.order < 2 ^ 32 }
+{
+    let _order = key.order;
+}
+
+fn is_tuple(tuple: &Option<Tuple>)
+    ensures { IfSome tuple.now IsTuple }
+{
+    match tuple {
+        Some(tuple) => {
+            let _day = tuple.day;
+        }
+        None => {}
+    }
+}
+
+fn is_within(delta: &Delta)
+    ensures key { IsKey delta.now.key }
+    ensures order { delta.now.key.order < 2 ^ 32 }
+    ensures before { IfSome delta.now.before IsTuple }
+    ensures after { IfSome delta.now.after IsTuple }
+{
+    is_key(&delta.key);
+    is_tuple(&delta.before);
+    is_tuple(&delta.after);
 }
 
 fn rows_added(delta: &Delta) -> u32
@@ -93,6 +124,7 @@ impl Core {
         laws::rows();
         laws::histories();
         self.is_sound();
+        is_within(delta);
         let place = self.len();
         Entry {
             seq: place + 1,
