@@ -1,5 +1,5 @@
 -- A commit that one party makes alone.
-use Rattle.std.proofs.Common.{◌≡◌, ◌≢◌, ℕ, zero, suc, ◌+◌, ◌*◌, ◌<◌, ◌≤◌, Bool, cond, true, max, List, [], ◌∷◌, ◌++◌, length, get_or, set, eq-eqb, ne_eqb, inl, sym, refl, ap, ◌∙◌, subst, arith, get_or-set_other, get_or-set_same, length-set}
+use Rattle.std.proofs.Common.{◌≡◌, ◌≢◌, ℕ, zero, suc, ◌+◌, ◌*◌, ◌<◌, ◌≤◌, ◌==◌, Bool, true, false, if◌then◌else◌, max, List, [], ◌∷◌, ◌++◌, length, get_or, set, eq-eqb, ne_eqb, inl, sym, refl, ap, ◌∙◌, subst, arith, get_or-set_other, get_or-set_same, length-set}
 use mathlib.Core.Logic.{dite}
 use native.Mathlib.Decide.{ℕ_discrete}
 use Rattle.std.proofs.lemmas.List.{get_or_append_left}
@@ -18,9 +18,6 @@ use Rattle.log_core.proofs.Ends.{end_at-within, end_at-last, end_at-kept, end_at
 use Rattle.log_core.proofs.Nodes.{last-link, empty-last, place-before}
 use Rattle.log_core.proofs.Bounds.{node-words, next-words}
 use Rattle.log_core.proofs.Keeping.{keeps-sound}
-use Rattle.log_core.proofs.Runs.{runs-join, runs-sound}
-use Rattle.log_core.proofs.Alone.{after_tail, after_link, link-seen, link-reached, runs-loads}
-use Rattle.log_core.proofs.Grown.{last-by-tail}
 
 -- a core in which the party's next node may take an entry behind the last node
 pub record IsReady (x : CoreValue) (p n : ℕ) (e : Entry) : Type 0 where
@@ -145,7 +142,7 @@ module _ (c : CoreValue) (s : IsSound c) (p n : ℕ) (inp : p < length c.parties
 pub record CanAppend (x z : CoreValue) (p n : ℕ) (e : Entry) : Type 0 where
   pub nodes : z.chain.nodes ≡ x.chain.nodes
   pub history : z.chain.history ≡ x.chain.history
-  pub party : p < length z.parties
+  pub inp : p < length z.parties
   pub ready : IsReady z p n e
   pub has : HasEntry z.words n e
   pub seen : length z.chain.history ≤ (party z p).seen
@@ -170,12 +167,12 @@ module _ (x : CoreValue) (s : IsSound x) (p n t : ℕ) (inp : p < length x.parti
   end-behind : end_at x.chain.history (place + 1) ≡ length x.chain.history
   end-behind = let late = s.tail.late in end_at-last x.chain.history (place + 1) (omega arith)
 
-  may-help : (m : ℕ) → link x.words t ≡ suc m → MayMoveTail x p t (suc m) place
-  may-help m link_is = record {
+  may-help : (m : ℕ) → link x.words t ≡ m → m ≢ 0 → MayMoveTail x p t m place
+  may-help m link_is some = record {
     at = tail-at-place;
     reached = reached;
     link = link_is;
-    set = λ zero. absurd (omega arith);
+    set = some;
     seen = omega (arith, seen, end-behind);
   }
 
@@ -190,7 +187,7 @@ module _ (x : CoreValue) (s : IsSound x) (p n t : ℕ) (inp : p < length x.parti
   moved-appends m = record {
     nodes = refl;
     history = refl;
-    party = omega (arith, inp, length-set x.parties p (reaches (party x p) (end_at x.chain.history (place + 1))));
+    inp = omega (arith, inp, length-set x.parties p (reaches (party x p) (end_at x.chain.history (place + 1))));
     ready = same-ready x p n e (set x.words 0 m) (place + 1) x.noted
         (reaches (party x p) (end_at x.chain.history (place + 1))) inp refl ready;
     has = record { fits = has.fits; payload = λ w small. moved-word m w ∙ has.payload w small };
@@ -198,28 +195,41 @@ module _ (x : CoreValue) (s : IsSound x) (p n t : ℕ) (inp : p < length x.parti
     reached = omega (arith, end-behind, ap (λ (q : Party). q.reached) (moved-party m));
   }
 
+  whole-appends : link x.words t ≡ 0 → CanAppend x x p n e
+  whole-appends none =
+      let last = empty-last x.terms x.words x.chain s.linked s.filled t place tail-at-place none in
+      let end = end_at-last x.chain.history place (omega arith) in
+      record {
+        nodes = refl;
+        history = refl;
+        inp = inp;
+        ready = ready;
+        has = has;
+        seen = seen;
+        reached = omega (arith, reached);
+      }
+
+  -- by whether the tail has a link
+  helps-by : (m : ℕ) (z : CoreValue) (b : Bool) → (m == 0) ≡ b →
+      RunsAlone x p (if b then [] else SwapTail t m ∷ []) (if b then [] else Swapped true ∷ []) z →
+      RunsAlone x p (helps t m) (helped m) z
+  helps-by m z b is r = subst
+      (λ (b : Bool). RunsAlone x p (if b then [] else SwapTail t m ∷ []) (if b then [] else Swapped true ∷ []) z)
+      (sym is) r
+
   pub runs-help : (m : ℕ) → link x.words t ≡ m →
       (z : CoreValue) × RunsAlone x p (helps t m) (helped m) z × CanAppend x z p n e
-  runs-help zero link_is =
-      let last = empty-last x.terms x.words x.chain s.linked s.filled t place tail-at-place link_is in
-      let end = end_at-last x.chain.history place (omega arith) in (
-        x,
-        refl,
-        record {
-          nodes = refl;
-          history = refl;
-          party = inp;
-          ready = ready;
-          has = has;
-          seen = seen;
-          reached = omega (arith, reached);
-        },
-      )
-  runs-help (suc m) link_is = (
-    moved (suc m),
-    (moved (suc m), record { party = inp; gives = (place, may-help m link_is, inl (tail_is, refl, refl)) }, refl),
-    moved-appends (suc m),
-  )
+  runs-help m link_is = dite (ℕ_discrete m 0)
+      (λ none. (x, helps-by m x true (eq-eqb m 0 none) refl, whole-appends (link_is ∙ none)))
+      (λ some. (
+        moved m,
+        helps-by m (moved m) false (ne_eqb m 0 some) (
+          moved m,
+          record { party = inp; gives = (place, may-help m link_is some, inl (tail_is, refl, refl)) },
+          refl,
+        ),
+        moved-appends m,
+      ))
 
 -- where the party has seen all, and the tail at the last node, its stored node can be appended
 module _ (x : CoreValue) (s : IsSound x) (p n : ℕ) (inp : p < length x.parties) (e : Entry) (ready : IsReady x p n e)
@@ -310,17 +320,3 @@ module _ (x : CoreValue) (s : IsSound x) (p n : ℕ) (inp : p < length x.parties
   pub appended-tail : tail appended.words ≡ n
   appended-tail =
       let a = sound-longer.word_count in get_or-set_same longer.words 0 n 0 (omega arith)
-
--- the whole, stage by stage
-pub record Stages (c : CoreValue) (p n t m last : ℕ) (e : Entry) : Type 0 where
-  pub stored : CoreValue
-  pub loaded : CoreValue
-  pub helped_on : CoreValue
-  pub appended_to : CoreValue
-  pub stores : RunsAlone c p (stores n e) (Done ∷ Done ∷ Done ∷ Done ∷ []) stored
-  pub loads : RunsAlone stored p (loads t) (Value t ∷ Value m ∷ []) loaded
-  pub helps : RunsAlone loaded p (helps t m) (helped m) helped_on
-  pub appends : RunsAlone helped_on p (appends last n) (Swapped true ∷ Swapped true ∷ []) appended_to
-  pub history : appended_to.chain.history ≡ c.chain.history ++ e.delta ∷ []
-  pub nodes : appended_to.chain.nodes ≡ c.chain.nodes ++ n ∷ []
-  pub tail : tail appended_to.words ≡ n

@@ -12,5 +12,6 @@ pub mod NextEntry
 pub mod Nodes
 pub mod Runs
 pub mod Same
+pub mod Stages
 pub mod Stores
 pub mod Tables
