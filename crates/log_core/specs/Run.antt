@@ -1,5 +1,7 @@
 -- Steps one after another, and those of one party alone.
-use Rattle.std.specs.Prelude.{◌≡◌, ℕ, ◌+◌, ◌==◌, List, [], ◌∷◌, ◌++◌, map, true, slice_index, if◌then◌else◌}
+use Rattle.std.specs.Prelude.{◌≡◌, ℕ, ◌<◌, ◌==◌, length, List, [], ◌∷◌, ◌++◌, map, true, slice_index, if◌then◌else◌}
+use Rattle.cubit_base.specs.Delta.{IsLawful}
+use Rattle.cubit_base.specs.History.{after}
 use Rattle.cubit_base.specs.declared.delta.Delta.{Delta}
 use Rattle.cubit_base.specs.declared.entry.Entry.{Entry}
 use Rattle.log_core.specs.declared.step.Step.{Step}
@@ -7,8 +9,9 @@ use Rattle.log_core.specs.declared.step.Step.TheVariants.{Store, LoadTail, LoadL
 use Rattle.log_core.specs.declared.step.Seen.{Seen}
 use Rattle.log_core.specs.declared.step.Seen.TheVariants.{Value, Swapped, Done}
 use Rattle.log_core.specs.EntryWords.{entry_words}
-use Rattle.log_core.specs.Chain.{entry_count}
-use Rattle.log_core.specs.Core.{CoreValue}
+use Rattle.log_core.specs.Terms.{share}
+use Rattle.log_core.specs.Chain.{delta_count, entry_count}
+use Rattle.log_core.specs.Core.{CoreValue, party as party_of}
 use Rattle.log_core.specs.Steps.{IsNextNode, MayComeNext, TakesStep}
 use Rattle.log_core.specs.Growing.{behind}
 
@@ -58,6 +61,14 @@ helped m = if m == 0 then [] else Swapped true ∷ []
 -- a node behind the last one, and the tail moved to it
 abbrev pub appends : ℕ → ℕ → List Step
 appends last node = SwapLink last node ∷ SwapTail last node ∷ []
+
+-- the party has a node left, the log has room, and the delta is the party's own and lawful next of all
+pub record MayCommit (core : CoreValue) (p : ℕ) (d : Delta) : Type 0 where
+  pub party : p < length core.parties
+  pub node : (party_of core p).used < share core.terms p
+  pub room : delta_count core.chain.history < core.terms.limits.log_limit
+  pub author : d.author ≡ p
+  pub lawful : IsLawful core.terms.limits.row_limit (after core.terms.base core.chain.history) d
 
 -- an entry with this delta, in the party's next node: it is stored, a late tail is helped, and the node is appended
 abbrev pub TakesCommit : CoreValue → ℕ → Delta → CoreValue → Type 0

@@ -1,17 +1,14 @@
 //! What follows for steps of a core, and what one party can do alone, whatever the others have left half done.
 //!
 //! The functions without arguments do nothing: where one is called, its clauses are known.
-ghost use Rattle.std.specs.Prelude.{◌≡◌, ℕ, ◌<◌, ◌≤◌, [], ◌∷◌, ◌++◌, length};
-ghost use Rattle.cubit_base.specs.Delta.{IsLawful};
-ghost use Rattle.cubit_base.specs.History.{after};
+ghost use Rattle.std.specs.Prelude.{◌≡◌, ℕ, ◌<◌, ◌≤◌, [], ◌∷◌, ◌++◌, length, IsTrue, ◌↔◌};
 ghost use Rattle.cubit_base.specs.declared.entry.Entry.{Entry as EntryValue};
 ghost use Rattle.log_core.specs.EntryWords.{FitsWords, entry_words};
-ghost use Rattle.log_core.specs.Terms.{share};
 ghost use Rattle.log_core.specs.Chain.{tail, link, node_at, IsNodeAt, delta_count, entry_count, end_at};
 ghost use Rattle.log_core.specs.Core.{CoreValue, party as party_of, IsSound};
 ghost use Rattle.log_core.specs.Growing.{HasGrown, behind};
 ghost use Rattle.log_core.specs.Steps.{TakesStep, IsLawfulStep};
-ghost use Rattle.log_core.specs.Run.{IsLawfulRun, EndsIn, TakesFront, stores as stores_of, helps, TakesCommit};
+ghost use Rattle.log_core.specs.Run.{IsLawfulRun, EndsIn, TakesFront, stores as stores_of, helps, MayCommit, TakesCommit};
 ghost use Rattle.log_core.specs.declared.step.Step.{Step as StepValue};
 ghost use Rattle.log_core.specs.declared.step.Seen.{Seen as SeenValue};
 
@@ -84,21 +81,23 @@ pub fn front_alone(core: &mut Core, party: u8) -> [Seen; 3]
     [tail, link, counts]
 }
 
+/// Whether a party may append a delta alone.
+pub fn may_commit_alone(core: &Core, party: u8, delta: &Delta) -> bool
+    ensures { IsTrue result ↔ MayCommit core.now party delta.now }
+{
+    core.may_append(party, delta)
+}
+
 /// Appends a delta alone, behind all that is there: the entry's four words, and at most five steps after them. It takes
 /// no memory.
 pub fn commit_alone(core: &mut Core, party: u8, delta: &Delta)
-    requires party { party < length core.old.parties }
-    requires node { (party_of core.old party).used < share core.old.terms party }
-    requires room { delta_count core.old.chain.history < core.old.terms.limits.log_limit }
-    requires author { delta.now.author ≡ party }
-    requires lawful { IsLawful core.old.terms.limits.row_limit
-        (after core.old.terms.base core.old.chain.history) delta.now }
+    requires { MayCommit core.old party delta.now }
     ensures steps { TakesCommit core.old party delta.now core.new }
     ensures history { core.new.chain.history ≡ core.old.chain.history ++ delta.now ∷ [] }
     ensures nodes { core.new.chain.nodes ≡ core.old.chain.nodes ++ tail core.new.words ∷ [] }
 {
     core.is_sound();
-    let node = core.next_node(party);
+    let node = core.next_node(usize::from(party));
     let entry = core.next_entry(party, delta);
     let tail = core.tail();
     let link = core.tail_link();

@@ -8,6 +8,7 @@ ghost use Rattle.cubit_base.specs.History.{after, rows_after};
 ghost use Rattle.log_core.specs.EntryWords.{FitsWords};
 ghost use Rattle.log_core.specs.Chain.{delta_count, entry_count, delta_at};
 ghost use Rattle.log_core.specs.Steps.{MayComeNext};
+ghost use Rattle.log_core.specs.Run.{MayCommit};
 
 use super::Core;
 use cubit_base::{Delta, Entry, Key, Tuple, laws};
@@ -131,6 +132,21 @@ impl Core {
             rows: self.rows_with(place, delta),
             delta: Delta { ..*delta },
         }
+    }
+
+    /// Whether the party may append the delta next of all.
+    pub(crate) fn may_append(&self, party: u8, delta: &Delta) -> bool
+        ensures { IsTrue result ↔ MayCommit self.now party delta.now }
+    {
+        self.is_sound();
+        let at = usize::from(party);
+        if at >= self.party_count() || delta.author != party || self.len() >= self.limits.log_limit {
+            return false;
+        }
+        if !self.has_node(at) {
+            return false;
+        }
+        self.is_lawful_behind(self.len(), delta)
     }
 
     // A row behind a place, or none past the last one.

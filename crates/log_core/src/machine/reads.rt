@@ -126,14 +126,22 @@ impl Core {
         first
     }
 
+    /// Whether the party has a node left.
+    pub(super) fn has_node(&self, party: usize) -> bool
+        requires { party < length self.now.parties }
+        ensures { IsTrue result ↔ ((party_of self.now party).used < share self.now.terms party) }
+    {
+        self.is_sound();
+        self.party(party).used < self.shares[party]
+    }
+
     /// The party's next node.
-    pub(crate) fn next_node(&self, party: u8) -> u32
+    pub(crate) fn next_node(&self, party: usize) -> u32
         requires party { party < length self.now.parties }
         requires node { (party_of self.now party).used < share self.now.terms party }
         ensures { IsNextNode self.now party result }
     {
         self.is_sound();
-        let party = usize::from(party);
         self.first_node(party) + self.party(party).used
     }
 
@@ -142,9 +150,6 @@ impl Core {
         requires { party < length self.now.parties }
         ensures { IsTrue result ↔ IsNextNode self.now party node }
     {
-        self.is_sound();
-        let first = self.first_node(party);
-        let used = self.party(party).used;
-        used < self.shares[party] && node == first + used
+        self.has_node(party) && node == self.next_node(party)
     }
 }

@@ -1,6 +1,8 @@
 use super::{core, stores};
-use crate::laws::front_alone;
+use crate::entry_words::from_words;
+use crate::laws::{commit_alone, front_alone, may_commit_alone};
 use crate::{Core, Seen, Step};
+use cubit_base::Delta;
 use std::test::Fail;
 
 // The update of key 1.1 to quantity 18 by author 0, first in a log; that of key 1.2 to quantity 1 by author 1, second.
@@ -264,6 +266,82 @@ fn a_front_taken_alone(rt: HostRuntime) -> Result<(), Fail> {
         let seen = front_alone(&mut core, party);
         let expected = [Seen::Value(0), Seen::Value(node), Seen::Value(counts)];
         assert_eq!(rt; seen, expected, "of {party}");
+    }
+    Ok(())
+}
+
+// Appends a delta alone where that may be, and answers with the front taken afterwards.
+fn commits(core: &mut Core, party: u8, delta: &Delta) -> Option<[Seen; 3]> {
+    if !may_commit_alone(core, party, delta) || usize::from(party) >= core.party_count() {
+        return None;
+    }
+    commit_alone(core, party, delta);
+    if usize::from(party) >= core.party_count() {
+        return None;
+    }
+    Some(front_alone(core, party))
+}
+
+// A party commits alone, wherever another one stopped.
+#[test]
+fn a_commit_made_alone(rt: HostRuntime) -> Result<(), Fail> {
+    let Some(new) = from_words(&[NEW[0], NEW[1] + AUTHOR, NEW[2], NEW[3]]) else {
+        assert!(rt; false);
+        return Ok(());
+    };
+    for made in 0..9 {
+        let mut core = core(rt.alloc(), &[1, 1], 16, 2)?;
+        let [a, b, c, d] = stores(1, FIRST);
+        let (link, swap) = (Step::LoadLink { node: 0 }, Step::SwapLink { node: 0, to: 1 });
+        let last = Step::SwapTail { from: 0, to: 1 };
+        for (at, step) in [a, b, c, d, Step::LoadTail, link, swap, last]
+            .into_iter()
+            .enumerate()
+        {
+            if at < made {
+                assert!(rt; core.step(0, &step).is_ok(), "{at} of {made}");
+            }
+        }
+        let seq = if made < 7 { 1 } else { 2 };
+        let counts = NEW[1] + AUTHOR + seq - 1;
+        let expected = [Seen::Value(2), Seen::Value(0), Seen::Value(counts)];
+        assert_eq!(rt; commits(&mut core, 1, &new.delta), Some(expected), "after {made}");
+        // Its one node is used.
+        assert_eq!(rt; commits(&mut core, 1, &new.delta), None, "after {made}");
+    }
+    Ok(())
+}
+
+// What no party may commit.
+#[test]
+fn no_commits(rt: HostRuntime) -> Result<(), Fail> {
+    let Some(first) = from_words(&FIRST) else {
+        assert!(rt; false);
+        return Ok(());
+    };
+    let Some(new) = from_words(&NEW) else {
+        assert!(rt; false);
+        return Ok(());
+    };
+    let gone = Delta {
+        after: None,
+        ..first.delta
+    };
+    for (at, (party, share, row_limit, log_limit, delta, may)) in [
+        (0, 1, 3, 1, first.delta, true),
+        (0, 1, 4, 1, new.delta, true),
+        (0, 1, 3, 1, gone, true),
+        (1, 1, 4, 1, first.delta, false),
+        (2, 1, 4, 1, first.delta, false),
+        (0, 0, 4, 1, first.delta, false),
+        (0, 1, 4, 0, first.delta, false),
+        (0, 1, 3, 1, new.delta, false),
+    ]
+    .into_iter()
+    .enumerate()
+    {
+        let mut core = core(rt.alloc(), &[share, 1], row_limit, log_limit)?;
+        assert_eq!(rt; commits(&mut core, party, &delta).is_some(), may, "at {at}");
     }
     Ok(())
 }

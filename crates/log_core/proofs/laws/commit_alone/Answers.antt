@@ -3,6 +3,7 @@ use Rattle.cubit_base.specs.declared.delta.Delta.{Delta}
 use Rattle.log_core.specs.declared.step.Step.{Step}
 use Rattle.log_core.specs.Chain.{tail}
 use Rattle.log_core.specs.Core.{CoreValue}
+use Rattle.log_core.specs.Steps.{IsNextNode}
 use Rattle.log_core.specs.Run.{RunsAlone, stores, loads, helps, helped, appends, IsLawfulRun, EndsIn, TakesCommit}
 use Rattle.log_core.proofs.Runs.{known-lawful, known-end}
 use Rattle.log_core.proofs.Stages.{stored_answers, loaded_answers, appended_answers, plan}
@@ -13,7 +14,8 @@ run-requires c =
     let core = c.args.core.now in let p = c.args.party in
     let n = c.next_node-node.result in let t = c.tail-tail.result in let m = c.tail_link-link.result in
     let last = c.last-last.result in let e = c.next_entry-entry.result in
-    let g = plan core p n t m last e c.is_sound.ensures.sound c.requires.party c.next_node-node.ensures
+    let g = plan core p n t m last e c.is_sound.ensures.sound c.requires.party
+    (subst (λ q. IsNextNode core q n) c.from.ensures c.next_node-node.ensures)
     c.next_entry-entry.ensures.fits c.requires.room c.next_entry-entry.ensures.next c.tail-tail.ensures
     c.tail_link-link.ensures c.last-last.ensures in
     subst (λ s. IsLawfulRun core p s) (sym c.stores-stores.ensures)
@@ -24,7 +26,8 @@ run-requires-2 c =
     let core = c.args.core.now in let p = c.args.party in
     let n = c.next_node-node.result in let t = c.tail-tail.result in let m = c.tail_link-link.result in
     let last = c.last-last.result in let e = c.next_entry-entry.result in
-    let g = plan core p n t m last e c.is_sound.ensures.sound c.requires.party c.next_node-node.ensures
+    let g = plan core p n t m last e c.is_sound.ensures.sound c.requires.party
+    (subst (λ q. IsNextNode core q n) c.from.ensures c.next_node-node.ensures)
     c.next_entry-entry.ensures.fits c.requires.room c.next_entry-entry.ensures.next c.tail-tail.ensures
     c.tail_link-link.ensures c.last-last.ensures in
     let one : c.run.new.core ≡ g.one = known-end p core core g.one c.run.new.core (stores n e) stored_answers refl g.to_one
@@ -36,7 +39,8 @@ help-requires c =
     let core = c.args.core.now in let p = c.args.party in
     let n = c.next_node-node.result in let t = c.tail-tail.result in let m = c.tail_link-link.result in
     let last = c.last-last.result in let e = c.next_entry-entry.result in
-    let g = plan core p n t m last e c.is_sound.ensures.sound c.requires.party c.next_node-node.ensures
+    let g = plan core p n t m last e c.is_sound.ensures.sound c.requires.party
+    (subst (λ q. IsNextNode core q n) c.from.ensures c.next_node-node.ensures)
     c.next_entry-entry.ensures.fits c.requires.room c.next_entry-entry.ensures.next c.tail-tail.ensures
     c.tail_link-link.ensures c.last-last.ensures in
     let one : c.run.new.core ≡ g.one = known-end p core core g.one c.run.new.core (stores n e) stored_answers refl g.to_one
@@ -50,7 +54,8 @@ run-requires-3 c =
     let core = c.args.core.now in let p = c.args.party in
     let n = c.next_node-node.result in let t = c.tail-tail.result in let m = c.tail_link-link.result in
     let last = c.last-last.result in let e = c.next_entry-entry.result in
-    let g = plan core p n t m last e c.is_sound.ensures.sound c.requires.party c.next_node-node.ensures
+    let g = plan core p n t m last e c.is_sound.ensures.sound c.requires.party
+    (subst (λ q. IsNextNode core q n) c.from.ensures c.next_node-node.ensures)
     c.next_entry-entry.ensures.fits c.requires.room c.next_entry-entry.ensures.next c.tail-tail.ensures
     c.tail_link-link.ensures c.last-last.ensures in
     let one : c.run.new.core ≡ g.one = known-end p core core g.one c.run.new.core (stores n e) stored_answers refl g.to_one
@@ -66,7 +71,8 @@ returns c =
     let core = c.args.core.now in let p = c.args.party in
     let n = c.next_node-node.result in let t = c.tail-tail.result in let m = c.tail_link-link.result in
     let last = c.last-last.result in let e = c.next_entry-entry.result in
-    let g = plan core p n t m last e c.is_sound.ensures.sound c.requires.party c.next_node-node.ensures
+    let g = plan core p n t m last e c.is_sound.ensures.sound c.requires.party
+    (subst (λ q. IsNextNode core q n) c.from.ensures c.next_node-node.ensures)
     c.next_entry-entry.ensures.fits c.requires.room c.next_entry-entry.ensures.next c.tail-tail.ensures
     c.tail_link-link.ensures c.last-last.ensures in
     let one : c.run.new.core ≡ g.one = known-end p core core g.one c.run.new.core (stores n e) stored_answers refl g.to_one
@@ -80,7 +86,7 @@ returns c =
     let delta = c.next_entry-entry.ensures.delta in
     record {
       steps = subst (λ z. TakesCommit core p c.args.delta.now z) (sym four)
-          (n, t, m, e, c.next_node-node.ensures, c.next_entry-entry.ensures.next, delta, g.whole);
+          (n, t, m, e, subst (λ q. IsNextNode core q n) c.from.ensures c.next_node-node.ensures, c.next_entry-entry.ensures.next, delta, g.whole);
       history = ap (λ (x : CoreValue). x.chain.history) four ∙ g.history
           ∙ ap (λ (d : Delta). core.chain.history ++ d ∷ []) delta;
       nodes = ap (λ (x : CoreValue). x.chain.nodes) four ∙ g.nodes
