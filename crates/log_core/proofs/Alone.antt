@@ -1,5 +1,5 @@
 -- A front that one party takes alone.
-use Rattle.std.proofs.Common.{◌≡◌, ℕ, ◌+◌, ◌<◌, ◌≤◌, List, [], ◌∷◌, length, max, get_or, set, sym, refl, ap, ◌∙◌, subst, arith, get_or-set_same, length-set}
+use Rattle.std.proofs.Common.{◌≡◌, ℕ, ◌+◌, ◌<◌, ◌≤◌, [], ◌∷◌, length, max, sym, refl, ap, ◌∙◌, subst, arith, get_or-set_same, length-set}
 use Rattle.log_core.specs.declared.party.Party.{Party}
 use Rattle.log_core.specs.declared.step.Step.TheVariants.{LoadTail, LoadLink, LoadPayload}
 use Rattle.log_core.specs.declared.step.Seen.{Seen}

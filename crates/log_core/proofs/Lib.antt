@@ -13,5 +13,6 @@ pub mod Nodes
 pub mod Runs
 pub mod Same
 pub mod Stages
+pub mod Stored
 pub mod Stores
 pub mod Tables

@@ -1,5 +1,5 @@
 -- Steps one after another.
-use Rattle.std.proofs.Common.{◌≡◌, ℕ, List, [], ◌∷◌, ◌++◌, map, sym, subst}
+use Rattle.std.proofs.Common.{◌≡◌, ℕ, List, [], ◌∷◌, ◌++◌, sym, subst}
 use Rattle.log_core.specs.declared.step.Step.{Step}
 use Rattle.log_core.specs.declared.step.Seen.{Seen}
 use Rattle.log_core.specs.Core.{CoreValue, IsSound}

@@ -1,5 +1,5 @@
 -- A commit that one party makes alone, stage by stage.
-use Rattle.std.proofs.Common.{◌≡◌, ℕ, ◌+◌, ◌<◌, ◌≤◌, true, List, [], ◌∷◌, ◌++◌, length, sym, refl, ap, ◌∙◌, subst, arith, length-set}
+use Rattle.std.proofs.Common.{◌≡◌, ℕ, ◌+◌, ◌<◌, true, List, [], ◌∷◌, ◌++◌, length, sym, refl, ap, ◌∙◌, subst, arith, length-set}
 use Rattle.cubit_base.specs.declared.delta.Delta.{Delta}
 use Rattle.cubit_base.specs.declared.entry.Entry.{Entry}
 use Rattle.log_core.specs.declared.party.Party.{Party}
@@ -14,7 +14,8 @@ use Rattle.log_core.specs.Run.{RunsAlone, stores, loads, helps, helped, appends}
 use Rattle.log_core.proofs.Runs.{runs-join, runs-sound}
 use Rattle.log_core.proofs.Grown.{last-by-tail}
 use Rattle.log_core.proofs.Alone.{after_tail, after_link, link-seen, link-reached, runs-loads}
-use Rattle.log_core.proofs.Commits.{IsReady, CanAppend, same-ready, stored, runs-stores, stored-ready, has-entry, stored-tail, stored-link, runs-help, appended, runs-appends, appended-tail}
+use Rattle.log_core.proofs.Stored.{IsReady, same-ready, stored, runs-stores, stored-ready, has-entry, stored-tail, stored-link}
+use Rattle.log_core.proofs.Commits.{CanAppend, runs-help, appended, runs-appends, appended-tail}
 
 abbrev pub stored_answers : List Seen
 stored_answers = Done ∷ Done ∷ Done ∷ Done ∷ []

@@ -104,7 +104,11 @@ pub fn commit_alone(core: &mut Core, party: u8, delta: &Delta)
     let last = core.last();
     let stores = stores(node, &entry);
     run(core, party, &stores);
-    run(core, party, &[Step::LoadTail, Step::LoadLink { node: tail }]);
+    run(
+        core,
+        party,
+        &[Step::LoadTail, Step::LoadLink { node: tail }],
+    );
     help(core, party, tail, link);
     let appends = [
         Step::SwapLink {

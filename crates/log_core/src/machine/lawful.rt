@@ -140,7 +140,10 @@ impl Core {
     {
         self.is_sound();
         let at = usize::from(party);
-        if at >= self.party_count() || delta.author != party || self.len() >= self.limits.log_limit {
+        if at >= self.party_count()
+            || delta.author != party
+            || self.len() >= self.limits.log_limit
+        {
             return false;
         }
         if !self.has_node(at) {

@@ -270,9 +270,14 @@ fn a_front_taken_alone(rt: HostRuntime) -> Result<(), Fail> {
     Ok(())
 }
 
+fn delta(words: [u64; 4]) -> Option<Delta> {
+    let entry = from_words(&words)?;
+    Some(entry.delta)
+}
+
 // Appends a delta alone where that may be, and answers with the front taken afterwards.
 fn commits(core: &mut Core, party: u8, delta: &Delta) -> Option<[Seen; 3]> {
-    if !may_commit_alone(core, party, delta) || usize::from(party) >= core.party_count() {
+    if !may_commit_alone(core, party, delta) {
         return None;
     }
     commit_alone(core, party, delta);
@@ -285,16 +290,19 @@ fn commits(core: &mut Core, party: u8, delta: &Delta) -> Option<[Seen; 3]> {
 // A party commits alone, wherever another one stopped.
 #[test]
 fn a_commit_made_alone(rt: HostRuntime) -> Result<(), Fail> {
-    let Some(new) = from_words(&[NEW[0], NEW[1] + AUTHOR, NEW[2], NEW[3]]) else {
+    let Some(new) = delta([NEW[0], NEW[1] + AUTHOR, NEW[2], NEW[3]]) else {
         assert!(rt; false);
         return Ok(());
     };
+    let [a, b, c, d] = stores(1, FIRST);
+    let (link, swap) = (
+        Step::LoadLink { node: 0 },
+        Step::SwapLink { node: 0, to: 1 },
+    );
+    let moved = Step::SwapTail { from: 0, to: 1 };
     for made in 0..9 {
         let mut core = core(rt.alloc(), &[1, 1], 16, 2)?;
-        let [a, b, c, d] = stores(1, FIRST);
-        let (link, swap) = (Step::LoadLink { node: 0 }, Step::SwapLink { node: 0, to: 1 });
-        let last = Step::SwapTail { from: 0, to: 1 };
-        for (at, step) in [a, b, c, d, Step::LoadTail, link, swap, last]
+        for (at, step) in [a, b, c, d, Step::LoadTail, link, swap, moved]
             .into_iter()
             .enumerate()
         {
@@ -305,41 +313,34 @@ fn a_commit_made_alone(rt: HostRuntime) -> Result<(), Fail> {
         let seq = if made < 7 { 1 } else { 2 };
         let counts = NEW[1] + AUTHOR + seq - 1;
         let expected = [Seen::Value(2), Seen::Value(0), Seen::Value(counts)];
-        assert_eq!(rt; commits(&mut core, 1, &new.delta), Some(expected), "after {made}");
+        assert_eq!(rt; commits(&mut core, 1, &new), Some(expected), "after {made}");
         // Its one node is used.
-        assert_eq!(rt; commits(&mut core, 1, &new.delta), None, "after {made}");
+        assert_eq!(rt; commits(&mut core, 1, &new), None, "after {made}");
     }
     Ok(())
 }
 
-// What no party may commit.
+// What a party may commit.
 #[test]
-fn no_commits(rt: HostRuntime) -> Result<(), Fail> {
-    let Some(first) = from_words(&FIRST) else {
-        assert!(rt; false);
-        return Ok(());
-    };
-    let Some(new) = from_words(&NEW) else {
-        assert!(rt; false);
-        return Ok(());
-    };
-    let gone = Delta {
-        after: None,
-        ..first.delta
-    };
-    for (at, (party, share, row_limit, log_limit, delta, may)) in [
-        (0, 1, 3, 1, first.delta, true),
-        (0, 1, 4, 1, new.delta, true),
+fn commits_that_may_be(rt: HostRuntime) -> Result<(), Fail> {
+    let gone = [FIRST[0], FIRST[1], FIRST[2], 0];
+    for (at, (party, share, row_limit, log_limit, words, may)) in [
+        (0, 1, 3, 1, FIRST, true),
+        (0, 1, 4, 1, NEW, true),
         (0, 1, 3, 1, gone, true),
-        (1, 1, 4, 1, first.delta, false),
-        (2, 1, 4, 1, first.delta, false),
-        (0, 0, 4, 1, first.delta, false),
-        (0, 1, 4, 0, first.delta, false),
-        (0, 1, 3, 1, new.delta, false),
+        (1, 1, 4, 1, FIRST, false),
+        (2, 1, 4, 1, FIRST, false),
+        (0, 0, 4, 1, FIRST, false),
+        (0, 1, 4, 0, FIRST, false),
+        (0, 1, 3, 1, NEW, false),
     ]
     .into_iter()
     .enumerate()
     {
+        let Some(delta) = delta(words) else {
+            assert!(rt; false, "at {at}");
+            continue;
+        };
         let mut core = core(rt.alloc(), &[share, 1], row_limit, log_limit)?;
         assert_eq!(rt; commits(&mut core, party, &delta).is_some(), may, "at {at}");
     }

@@ -1,10 +1,9 @@
-use Rattle.std.proofs.Common.{◌≡◌, List, ◌++◌, ◌∷◌, [], ap, sym, refl, ◌∙◌, subst}
+use Rattle.std.proofs.Common.{◌≡◌, ◌++◌, ◌∷◌, [], ap, sym, refl, ◌∙◌, subst}
 use Rattle.cubit_base.specs.declared.delta.Delta.{Delta}
-use Rattle.log_core.specs.declared.step.Step.{Step}
 use Rattle.log_core.specs.Chain.{tail}
 use Rattle.log_core.specs.Core.{CoreValue}
 use Rattle.log_core.specs.Steps.{IsNextNode}
-use Rattle.log_core.specs.Run.{RunsAlone, stores, loads, helps, helped, appends, IsLawfulRun, EndsIn, TakesCommit}
+use Rattle.log_core.specs.Run.{stores, loads, helps, helped, appends, IsLawfulRun, EndsIn, TakesCommit}
 use Rattle.log_core.proofs.Runs.{known-lawful, known-end}
 use Rattle.log_core.proofs.Stages.{stored_answers, loaded_answers, appended_answers, plan}
 use Rattle.log_core.proofs.laws.commit_alone.Goals as goal

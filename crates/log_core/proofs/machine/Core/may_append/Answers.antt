@@ -1,4 +1,4 @@
-use Rattle.std.proofs.Common.{◌≤◌, List, rules, sym, subst, arith}
+use Rattle.std.proofs.Common.{List, rules, sym, subst, arith}
 use Rattle.std.proofs.lemmas.List.{take_all}
 use Rattle.cubit_base.specs.Delta.{IsLawful}
 use Rattle.cubit_base.specs.History.{after}

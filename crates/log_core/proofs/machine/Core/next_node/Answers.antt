@@ -1,4 +1,4 @@
-use Rattle.std.proofs.Common.{◌≡◌, ◌+◌, ◌<◌, ◌≤◌, arith, ap}
+use Rattle.std.proofs.Common.{◌≡◌, arith, ap}
 use Rattle.log_core.specs.declared.party.Party.{Party}
 use Rattle.log_core.specs.Core.{party}
 use Rattle.log_core.proofs.Bounds.{next-small}
