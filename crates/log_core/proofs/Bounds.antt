@@ -11,9 +11,6 @@ use Rattle.log_core.specs.Steps.{IsNextNode}
 use Rattle.log_core.proofs.Nodes.{node-small, node-inside}
 use Rattle.log_core.proofs.Looks.{keeps-shares}
 
-pub first_node-small : (t : CoreTerms) (p : ℕ) → AreTerms t → first_node t p ≤ 4_194_305
-first_node-small t p a = let n = a.nodes in omega (arith, sum_by-take-le (λ (x : ℕ). x) t.shares p)
-
 pub place-small : (c : CoreValue) → IsSound c → (k : ℕ) → k < length c.chain.nodes
     → node_at c.chain k < node_count c.terms
 place-small c s k lt = node-small c.terms c.words c.chain s.linked s.filled (keeps-shares c s) k lt
