@@ -1,5 +1,5 @@
 -- A front that one party takes alone.
-use Rattle.std.proofs.Common.{◌≡◌, ℕ, ◌+◌, ◌<◌, ◌≤◌, List, [], ◌∷◌, length, max, get_or, set, sym, refl, ap, ◌∙◌, subst, arith, get_or-set_same, length-set}
+use Rattle.std.proofs.Common.{◌≡◌, ℕ, ◌+◌, ◌<◌, ◌≤◌, [], ◌∷◌, length, max, sym, refl, ap, ◌∙◌, subst, arith, get_or-set_same, length-set}
 use Rattle.log_core.specs.declared.party.Party.{Party}
 use Rattle.log_core.specs.declared.step.Step.TheVariants.{LoadTail, LoadLink, LoadPayload}
 use Rattle.log_core.specs.declared.step.Seen.{Seen}
@@ -8,19 +8,19 @@ use Rattle.log_core.specs.Chain.{tail, payload, link, node_at, IsNodeAt, end_at}
 use Rattle.log_core.specs.Core.{CoreValue, newcomer, party, with_party, IsSound}
 use Rattle.log_core.specs.Steps.{MayRead, sees, tail_loaded, tail_end, sees_next, TakesStep, IsLawfulStep}
 use Rattle.log_core.specs.Growing.{behind}
-use Rattle.log_core.specs.Run.{TakesFront}
+use Rattle.log_core.specs.Run.{RunsAlone, loads, TakesFront}
 use Rattle.log_core.proofs.Ends.{end_at-within, end_at-last}
 use Rattle.log_core.proofs.Nodes.{one-place}
 use Rattle.log_core.proofs.Grown.{last-by-tail}
 
 module _ (c : CoreValue) (s : IsSound c) (p : ℕ) (inp : p < length c.parties) where
-  abbrev place : ℕ
+  abbrev pub place : ℕ
   place = c.chain.tail_place
 
-  abbrev after_tail : CoreValue
+  abbrev pub after_tail : CoreValue
   after_tail = with_party c p (tail_loaded c (party c p))
 
-  abbrev after_link : CoreValue
+  abbrev pub after_link : CoreValue
   after_link = sees_next after_tail p place
 
   inp' : p < length after_tail.parties
@@ -40,12 +40,19 @@ module _ (c : CoreValue) (s : IsSound c) (p : ℕ) (inp : p < length c.parties) 
   end : end_at c.chain.history (place + 1) ≡ length c.chain.history
   end = let late = s.tail.late in end_at-last c.chain.history (place + 1) (omega arith)
 
-  link-seen : (party after_link p).seen ≡ length c.chain.history
+  pub link-seen : (party after_link p).seen ≡ length c.chain.history
   link-seen =
       let x = s.parties p inp in
       let most = x.seen in
       let tail_most = end_at-within c.chain.history place in
       omega (arith, ap (λ (x : Party). x.seen) link-party, tail-seen, end)
+
+  pub link-reached : tail_end c ≤ (party after_link p).reached
+  link-reached = omega (
+    arith,
+    ap (λ (x : Party). x.reached) link-party,
+    ap (λ (x : Party). x.reached) tail-party,
+  )
 
   tail-at : IsNodeAt c.chain (tail c.words) place
   tail-at =
@@ -98,6 +105,16 @@ module _ (c : CoreValue) (s : IsSound c) (p : ℕ) (inp : p < length c.parties) 
       );
     },
   )
+
+  pub runs-loads : (t m : ℕ) → tail c.words ≡ t → link c.words t ≡ m →
+      RunsAlone c p (loads t) (Value t ∷ Value m ∷ []) after_link
+  runs-loads t m tail_is link_is =
+      subst (λ n. RunsAlone c p (loads t) (Value t ∷ Value n ∷ []) after_link) link_is
+      (subst (λ n. RunsAlone c p (loads n) (Value n ∷ Value (link c.words n) ∷ []) after_link) tail_is (
+        after_tail,
+        record { party = inp; gives = (refl, refl) },
+        (after_link, record { party = inp'; gives = (place, may-link, refl, refl) }, refl),
+      ))
 
   pub takes-front : (y z w : CoreValue) (a b d : Seen) (n : ℕ) → n ≡ node_at c.chain (length c.chain.history) →
       TakesStep c p LoadTail a y → TakesStep y p (LoadLink (tail c.words)) b z → TakesStep z p (LoadPayload n 1) d w →

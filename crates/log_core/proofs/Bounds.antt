@@ -1,16 +1,15 @@
 -- Which numbers of a sound core are small, and which of its words are there.
-use Rattle.std.proofs.Common.{◌≡◌, ℕ, ◌+◌, ◌*◌, ◌<◌, ◌≤◌, length, sym, subst, arith}
-use Rattle.std.specs.List.{sum}
+use Rattle.std.proofs.Common.{◌≡◌, ℕ, ◌+◌, ◌*◌, ◌<◌, ◌≤◌, length, sym, ap, ◌∙◌, arith}
+use mathlib.Core.Logic.{dite}
+use native.Mathlib.Decide.{dec_lt}
+use Rattle.std.proofs.lemmas.List.{get_or_past}
 use Rattle.std.proofs.lemmas.List.Sums.{sum_by-take-le}
 use Rattle.log_core.specs.Terms.{CoreTerms, share, first_node, node_count, AreTerms}
-use Rattle.log_core.specs.Chain.{tail, node_at, IsNodeAt}
+use Rattle.log_core.specs.Chain.{tail, link, node_at, IsNodeAt}
 use Rattle.log_core.specs.Core.{CoreValue, party, IsSound}
 use Rattle.log_core.specs.Steps.{IsNextNode}
 use Rattle.log_core.proofs.Nodes.{node-small, node-inside}
 use Rattle.log_core.proofs.Looks.{keeps-shares}
-
-pub first_node-small : (t : CoreTerms) (p : ℕ) → AreTerms t → first_node t p ≤ 4_194_305
-first_node-small t p a = let n = a.nodes in omega (arith, sum_by-take-le (λ (x : ℕ). x) t.shares p)
 
 pub place-small : (c : CoreValue) → IsSound c → (k : ℕ) → k < length c.chain.nodes
     → node_at c.chain k < node_count c.terms
@@ -35,3 +34,27 @@ next-words c p n s inp next =
     let count = s.word_count in let parties = s.party_count in let is = next.is in
     let small = node-inside c.terms p (party c p).used (omega arith) next.share in
     omega arith
+
+pub next-small : (c : CoreValue) (p : ℕ) → IsSound c → AreTerms c.terms → p < length c.parties →
+    (party c p).used < share c.terms p → first_node c.terms p + (party c p).used ≤ 4_194_305
+next-small c p s a inp spare =
+    let parties = s.party_count in let nodes = a.nodes in
+    let small = node-inside c.terms p (party c p).used (omega arith) spare in
+    omega arith
+
+-- the tail's place, and its link
+pub tail-at : (c : CoreValue) → IsSound c → IsNodeAt c.chain (tail c.words) c.chain.tail_place
+tail-at c s = let count = s.linked.count in let within = s.tail.within in record {
+  within = omega arith;
+  is = sym s.tail.is;
+}
+
+pub tail_link-small : (c : CoreValue) → IsSound c → link c.words (tail c.words) < node_count c.terms
+tail_link-small c s =
+    let count = s.linked.count in let within = s.tail.within in
+    let next : ℕ = c.chain.tail_place + 1 in
+    let is : link c.words (tail c.words) ≡ node_at c.chain next =
+    ap (link c.words) s.tail.is ∙ s.linked.next c.chain.tail_place (omega arith) in
+    dite (dec_lt next (length c.chain.nodes))
+    (λ lt. let small = place-small c s next lt in omega arith)
+    (λ ge. let none = get_or_past c.chain.nodes next 0 (omega arith) in omega arith)

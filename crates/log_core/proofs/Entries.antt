@@ -1,5 +1,5 @@
 -- The words of an entry tell the entry.
-use Rattle.std.proofs.Common.{◌≡◌, ◌≢◌, ℕ, ◌+◌, ◌*◌, ◌^◌, ◌<◌, ◌≤◌, List, [], ◌∷◌, get_or, slice_index, Option, Some, None, IfSome, sym, refl, ap, ◌∙◌, arith}
+use Rattle.std.proofs.Common.{◌≡◌, ℕ, List, [], ◌∷◌, get_or, Option, Some, None, IfSome, refl, ap, arith}
 use Rattle.cubit_base.specs.Tuple.{TupleValue, IsTuple}
 use Rattle.cubit_base.specs.Word.{tuple_word, word_of}
 use Rattle.cubit_base.specs.declared.entry.Entry.{Entry}

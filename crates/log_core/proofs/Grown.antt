@@ -1,5 +1,5 @@
 -- A lawful step lets a core grow, and what its tail tells.
-use Rattle.std.proofs.Common.{◌≡◌, ◌≢◌, ℕ, ◌+◌, ◌<◌, ◌≤◌, Bool, cond, eqb, eq-eqb, ne_eqb, List, [], ◌∷◌, ◌++◌, length, sym, refl, ap, ◌∙◌, subst, ⊎_elim, arith}
+use Rattle.std.proofs.Common.{◌≡◌, ℕ, ◌+◌, ◌<◌, ◌≤◌, Bool, cond, eq-eqb, ne_eqb, [], ◌∷◌, length, sym, refl, ap, ◌∙◌, subst, ⊎_elim, arith}
 use mathlib.Core.Logic.{dite}
 use native.Mathlib.Decide.{ℕ_discrete}
 use Rattle.std.proofs.lemmas.List.{append-nil}
@@ -9,7 +9,7 @@ use Rattle.log_core.specs.declared.step.Step.TheVariants.{Store, LoadTail, LoadL
 use Rattle.log_core.specs.declared.step.Seen.{Seen}
 use Rattle.log_core.specs.Chain.{Chain, tail, link, node_at, IsNodeAt, end_at}
 use Rattle.log_core.specs.Core.{CoreValue, party, IsSound}
-use Rattle.log_core.specs.Steps.{Gives, TakesStep, tail_end, linked, tail_moved, MayMoveTail}
+use Rattle.log_core.specs.Steps.{Gives, TakesStep, linked, tail_moved, MayMoveTail}
 use Rattle.log_core.specs.Growing.{HasGrown, behind}
 use Rattle.log_core.proofs.Ends.{end_at-grows, end_at-rising, end_at-last, end_at-place}
 use Rattle.log_core.proofs.Nodes.{empty-last, full-inner, one-place}

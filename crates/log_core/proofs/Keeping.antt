@@ -1,5 +1,5 @@
 -- Each lawful step of each party leaves a sound core sound.
-use Rattle.std.proofs.Common.{◌≡◌, ◌<◌, ℕ, length, sym, subst, ⊎_elim, arith}
+use Rattle.std.proofs.Common.{◌<◌, ℕ, length, sym, subst, ⊎_elim, arith}
 use Rattle.log_core.specs.declared.step.Step.{Step}
 use Rattle.log_core.specs.declared.step.Step.TheVariants.{Store, LoadTail, LoadLink, LoadPayload, SwapLink, SwapTail, Note, Join}
 use Rattle.log_core.specs.declared.step.Seen.{Seen}

@@ -1,5 +1,6 @@
 pub mod Alone
 pub mod Bounds
+pub mod Commits
 pub mod Ends
 pub mod Entries
 pub mod Keeping
@@ -7,7 +8,11 @@ pub mod Grown
 pub mod Links
 pub mod Looks
 pub mod Made
+pub mod NextEntry
 pub mod Nodes
+pub mod Runs
 pub mod Same
+pub mod Stages
+pub mod Stored
 pub mod Stores
 pub mod Tables

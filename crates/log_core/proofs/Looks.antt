@@ -1,11 +1,10 @@
 -- A step that changes no word leaves a sound core.
-use Rattle.std.proofs.Common.{◌≡◌, ◌≢◌, ℕ, ◌+◌, ◌<◌, ◌≤◌, max, List, length, get_or, set, sym, ap, ◌∙◌, subst, arith, get_or-set_other, get_or-set_same, length-set}
+use Rattle.std.proofs.Common.{◌≡◌, ℕ, ◌+◌, ◌<◌, ◌≤◌, max, List, length, get_or, set, sym, ap, ◌∙◌, subst, arith, get_or-set_other, get_or-set_same, length-set}
 use mathlib.Core.Logic.{dite}
 use native.Mathlib.Decide.{ℕ_discrete}
-use Rattle.std.specs.List.{count_by}
 use Rattle.log_core.specs.declared.party.Party.{Party}
-use Rattle.log_core.specs.Terms.{CoreTerms, share}
-use Rattle.log_core.specs.Chain.{Chain, tail, IsNodeAt, end_at, is_by}
+use Rattle.log_core.specs.Terms.{CoreTerms}
+use Rattle.log_core.specs.Chain.{Chain, tail, end_at}
 use Rattle.log_core.specs.Core.{CoreValue, newcomer, party, with_party, IsSoundParty, IsSound}
 use Rattle.log_core.specs.Steps.{sees, reaches, loads_tail, tail_loaded, tail_end, sees_next, reaches_next}
 use Rattle.log_core.proofs.Ends.{end_at-within, end_at-last}

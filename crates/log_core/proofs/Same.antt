@@ -1,17 +1,14 @@
 -- The words of a core decide its chain, and a step has one answer and one core after it.
-use Rattle.std.proofs.Common.{◌≡◌, ◌≢◌, ◌⊎◌, ℕ, zero, suc, ◌+◌, ◌<◌, ◌≤◌, List, length, true, false, inl, inr, sym, refl, ap, ◌∙◌, subst, arith}
+use Rattle.std.proofs.Common.{◌≡◌, ℕ, zero, suc, ◌+◌, ◌<◌, ◌≤◌, List, length, inl, inr, sym, ap, ◌∙◌, subst, arith}
 use mathlib.Core.Logic.{dite}
 use native.Mathlib.Decide.{dec_lt}
 use Rattle.std.proofs.lemmas.List.{ext_get_or}
-use Rattle.cubit_base.specs.declared.delta.Delta.{Delta}
 use Rattle.cubit_base.specs.declared.entry.Entry.{Entry}
 use Rattle.log_core.specs.declared.step.Step.{Step}
 use Rattle.log_core.specs.declared.step.Step.TheVariants.{Store, LoadTail, LoadLink, LoadPayload, SwapLink, SwapTail, Note, Join}
 use Rattle.log_core.specs.declared.step.Seen.{Seen}
-use Rattle.log_core.specs.declared.step.Seen.TheVariants.{Swapped}
-use Rattle.log_core.specs.EntryWords.{entry_words}
 use Rattle.log_core.specs.Terms.{CoreTerms}
-use Rattle.log_core.specs.Chain.{Chain, tail, link, node_at, no_delta, delta_at, HasEntry, IsNodeAt, IsLinked, IsFilled, entry_at}
+use Rattle.log_core.specs.Chain.{Chain, tail, link, node_at, no_delta, HasEntry, IsNodeAt, IsLinked, IsFilled, entry_at}
 use Rattle.log_core.specs.Core.{CoreValue, IsSound}
 use Rattle.log_core.specs.Steps.{sees_next, reaches_next, linked, tail_moved, Gives, TakesStep}
 use Rattle.log_core.proofs.Entries.{TellsTuple, entry-told, four-words}

@@ -3,10 +3,9 @@ use Rattle.std.proofs.Common.{◌≡◌, ◌≢◌, ℕ, ◌+◌, ◌*◌, ◌<�
 use mathlib.Core.Logic.{dite}
 use native.Mathlib.Decide.{ℕ_discrete}
 use Rattle.log_core.specs.declared.party.Party.{Party}
-use Rattle.log_core.specs.Terms.{first_node}
-use Rattle.log_core.specs.Chain.{Chain, tail, payload_place, payload, link, node_at, HasEntry, IsNodeAt, IsInChain, end_at, entry_at}
+use Rattle.log_core.specs.Chain.{Chain, tail, payload_place, payload, link, node_at, IsInChain, end_at}
 use Rattle.log_core.specs.Core.{CoreValue, newcomer, party, IsSoundParty, IsSound}
-use Rattle.log_core.specs.Steps.{IsNextNode, MayStore, MayMoveTail, reaches, tail_end, tail_moved, reaches_next}
+use Rattle.log_core.specs.Steps.{IsNextNode, MayStore, MayMoveTail, reaches, tail_moved, reaches_next}
 use Rattle.log_core.proofs.Ends.{end_at-rising}
 use Rattle.log_core.proofs.Nodes.{one-place, place-before, full-inner, unused-outside}
 use Rattle.log_core.proofs.Looks.{each-set, keeps-shares, sound-reaches, keeps-reaches_next}

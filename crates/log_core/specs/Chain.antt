@@ -1,5 +1,5 @@
 -- The words of a log, and the chain that they hold.
-use Rattle.std.specs.Prelude.{◌≡◌, ◌≢◌, ℕ, ◌+◌, ◌*◌, ◌<◌, ◌≤◌, ◌==◌, Bool, List, length, take, slice_index, slice_index_or, Option, None}
+use Rattle.std.specs.Prelude.{◌≡◌, ◌≢◌, ℕ, ◌+◌, ◌*◌, ◌<◌, ◌≤◌, ◌==◌, Bool, List, length, take, slice_index, slice_index_or, None}
 use Rattle.std.specs.List.{count_by}
 use Rattle.cubit_base.specs.History.{rows_after}
 use Rattle.cubit_base.specs.declared.delta.Delta.{Delta}

@@ -2,9 +2,8 @@
 use Rattle.std.specs.Prelude.{◌≡◌, ℕ, ◌+◌, ◌*◌, ◌<◌, ◌≤◌, List, [], ◌∷◌, length, replicate, slice_index_or, slice_set}
 use Rattle.std.specs.List.{count_by}
 use Rattle.cubit_base.specs.History.{IsHistory}
-use Rattle.cubit_base.specs.declared.delta.Delta.{Delta}
 use Rattle.log_core.specs.declared.party.Party.{Party}
-use Rattle.log_core.specs.Terms.{CoreTerms, share, first_node, node_count}
+use Rattle.log_core.specs.Terms.{CoreTerms, share, node_count}
 use Rattle.log_core.specs.Chain.{Chain, IsNodeAt, delta_count, entry_count, end_at, delta_at, is_by, IsLinked, IsFilled, HasTail}
 
 -- what it was told once; the words of the log, and their chain; what each party has seen and made; and how many deltas

@@ -1,5 +1,5 @@
 -- The four words of 64 bits that an entry is kept in.
-use Rattle.std.specs.Prelude.{ℕ, ◌+◌, ◌*◌, ◌^◌, ◌≤◌, ◌<◌, Bool, true, ◌≡◌, ◌||◌, is_some, List, [], ◌∷◌, IfSome}
+use Rattle.std.specs.Prelude.{ℕ, ◌+◌, ◌*◌, ◌^◌, ◌≤◌, ◌<◌, true, ◌≡◌, ◌||◌, is_some, List, [], ◌∷◌, IfSome}
 use Rattle.cubit_base.specs.Key.{IsKey}
 use Rattle.cubit_base.specs.Tuple.{IsTuple}
 use Rattle.cubit_base.specs.Word.{word_of}

@@ -1,7 +1,7 @@
 -- What the fields of a core stand for.
 use Rattle.std.specs.Prelude.{◌≤◌, ◌+◌, vec_capacity}
 use Rattle.log_core.specs.declared.machine.Core.TheInside.{Inside}
-use Rattle.log_core.specs.Terms.{CoreTerms, node_count, AreTerms}
+use Rattle.log_core.specs.Terms.{CoreTerms, AreTerms}
 use Rattle.log_core.specs.Core.{CoreValue, IsSound}
 
 abbrev pub core_terms : Inside → CoreTerms

@@ -1,5 +1,5 @@
 -- The steps of the log's core.
-use Rattle.std.specs.Prelude.{◌≡◌, ◌≢◌, ◌⊎◌, ℕ, ◌+◌, ◌<◌, ◌≤◌, List, [], ◌∷◌, ◌++◌, length, take, max, slice_set, Bool, true, false, Result, Ok, Err}
+use Rattle.std.specs.Prelude.{◌≡◌, ◌≢◌, ◌⊎◌, ℕ, ◌+◌, ◌<◌, ◌≤◌, [], ◌∷◌, ◌++◌, length, take, max, slice_set, true, false, Result, Ok, Err}
 use Rattle.cubit_base.specs.Delta.{IsLawful}
 use Rattle.cubit_base.specs.History.{after, rows_after}
 use Rattle.cubit_base.specs.declared.delta.Delta.{Delta}
@@ -10,8 +10,8 @@ use Rattle.log_core.specs.declared.step.Step.TheVariants.{Store, LoadTail, LoadL
 use Rattle.log_core.specs.declared.step.Seen.{Seen}
 use Rattle.log_core.specs.declared.step.Seen.TheVariants.{Value, Swapped, Done}
 use Rattle.log_core.specs.declared.step.Unlawful.{Unlawful}
-use Rattle.log_core.specs.Terms.{CoreTerms, share, first_node}
-use Rattle.log_core.specs.Chain.{tail, payload_place, link_place, payload, link, HasEntry, Chain, IsNodeAt, delta_count, end_at}
+use Rattle.log_core.specs.Terms.{share, first_node}
+use Rattle.log_core.specs.Chain.{tail, payload_place, link_place, payload, link, HasEntry, IsNodeAt, delta_count, end_at}
 use Rattle.log_core.specs.Core.{CoreValue, party, with_party}
 
 -- the party's next node, which it has not used yet

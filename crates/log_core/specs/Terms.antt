@@ -1,5 +1,5 @@
 -- What a core is told once, and which nodes are whose.
-use Rattle.std.specs.Prelude.{◌≡◌, ℕ, ◌+◌, ◌<◌, ◌≤◌, List, length, take, slice_index}
+use Rattle.std.specs.Prelude.{ℕ, ◌+◌, ◌≤◌, List, length, take, slice_index}
 use Rattle.std.specs.List.{sum}
 use Rattle.cubit_base.specs.Table.{Row}
 use Rattle.cubit_base.specs.History.{LimitsFit}

@@ -1,22 +1,24 @@
 //! What follows for steps of a core, and what one party can do alone, whatever the others have left half done.
 //!
 //! The functions without arguments do nothing: where one is called, its clauses are known.
-ghost use Rattle.std.specs.Prelude.{◌≡◌, ℕ, ◌<◌, ◌≤◌, length};
-ghost use Rattle.cubit_base.specs.declared.entry.Entry.{Entry};
+ghost use Rattle.std.specs.Prelude.{◌≡◌, ℕ, ◌<◌, ◌≤◌, [], ◌∷◌, ◌++◌, length, IsTrue, ◌↔◌};
+ghost use Rattle.cubit_base.specs.declared.entry.Entry.{Entry as EntryValue};
 ghost use Rattle.log_core.specs.EntryWords.{FitsWords, entry_words};
 ghost use Rattle.log_core.specs.Chain.{tail, link, node_at, IsNodeAt, delta_count, entry_count, end_at};
 ghost use Rattle.log_core.specs.Core.{CoreValue, party as party_of, IsSound};
 ghost use Rattle.log_core.specs.Growing.{HasGrown, behind};
 ghost use Rattle.log_core.specs.Steps.{TakesStep, IsLawfulStep};
-ghost use Rattle.log_core.specs.Run.{TakesFront};
+ghost use Rattle.log_core.specs.Run.{IsLawfulRun, EndsIn, TakesFront, stores as stores_of, helps, MayCommit, TakesCommit};
 ghost use Rattle.log_core.specs.declared.step.Step.{Step as StepValue};
 ghost use Rattle.log_core.specs.declared.step.Seen.{Seen as SeenValue};
 
+use crate::entry_words::to_words;
 use crate::{Core, Seen, Step};
+use cubit_base::{Delta, Entry};
 
 /// The words of an entry tell it.
 pub fn entries()
-    ensures words { (a b : Entry) → FitsWords a → FitsWords b → entry_words a ≡ entry_words b → a ≡ b }
+    ensures words { (a b : EntryValue) → FitsWords a → FitsWords b → entry_words a ≡ entry_words b → a ≡ b }
 {
     cubit_base::laws::words();
 }
@@ -77,6 +79,108 @@ pub fn front_alone(core: &mut Core, party: u8) -> [Seen; 3]
         },
     );
     [tail, link, counts]
+}
+
+/// Whether a party may append a delta alone.
+pub fn may_commit_alone(core: &Core, party: u8, delta: &Delta) -> bool
+    ensures { IsTrue result ↔ MayCommit core.now party delta.now }
+{
+    core.may_append(party, delta)
+}
+
+/// Appends a delta alone, behind all that is there: the entry's four words, and at most five steps after them. It takes
+/// no memory.
+pub fn commit_alone(core: &mut Core, party: u8, delta: &Delta)
+    requires { MayCommit core.old party delta.now }
+    ensures steps { TakesCommit core.old party delta.now core.new }
+    ensures history { core.new.chain.history ≡ core.old.chain.history ++ delta.now ∷ [] }
+    ensures nodes { core.new.chain.nodes ≡ core.old.chain.nodes ++ tail core.new.words ∷ [] }
+{
+    core.is_sound();
+    let node = core.next_node(usize::from(party));
+    let entry = core.next_entry(party, delta);
+    let tail = core.tail();
+    let link = core.tail_link();
+    let last = core.last();
+    let stores = stores(node, &entry);
+    run(core, party, &stores);
+    run(
+        core,
+        party,
+        &[Step::LoadTail, Step::LoadLink { node: tail }],
+    );
+    help(core, party, tail, link);
+    let appends = [
+        Step::SwapLink {
+            node: last,
+            to: node,
+        },
+        Step::SwapTail {
+            from: last,
+            to: node,
+        },
+    ];
+    run(core, party, &appends);
+}
+
+// The stores of an entry.
+#[tactic(auto, unfolding(crate::specs::EntryWords::entry_words))]
+fn stores(node: u32, entry: &Entry) -> [Step; 4]
+    requires { FitsWords entry.now }
+    ensures { result ≡ stores_of node entry.now }
+{
+    let [place, counts, before, after] = to_words(entry);
+    [
+        Step::Store {
+            node,
+            word: 0,
+            value: place,
+        },
+        Step::Store {
+            node,
+            word: 1,
+            value: counts,
+        },
+        Step::Store {
+            node,
+            word: 2,
+            value: before,
+        },
+        Step::Store {
+            node,
+            word: 3,
+            value: after,
+        },
+    ]
+}
+
+// Moves a late tail on, which is one with a link.
+fn help(core: &mut Core, party: u8, tail: u32, link: u32)
+    requires { IsLawfulRun core.old party (helps tail link) }
+    ensures { EndsIn core.old party (helps tail link) core.new }
+{
+    if link != 0 {
+        run(
+            core,
+            party,
+            &[Step::SwapTail {
+                from: tail,
+                to: link,
+            }],
+        );
+    }
+}
+
+// Takes steps that are lawful.
+fn run(core: &mut Core, party: u8, steps: &[Step])
+    requires { IsLawfulRun core.old party steps.now }
+    ensures { EndsIn core.old party steps.now core.new }
+{
+    cubit_base::laws::words();
+    for step in steps {
+        core.is_sound();
+        took(core, party, step);
+    }
 }
 
 // Takes a step that is lawful.

@@ -1,13 +1,17 @@
 //! Whether a delta is lawful behind a place of the chain.
-ghost use Rattle.std.specs.Prelude.{◌≡◌, ◌≢◌, ℕ, if◌then◌else◌, ◌≤◌, ◌<◌, length, take, [], ◌∷◌, ◌++◌, slice_get, Some, None, IsTrue, ◌↔◌};
-ghost use Rattle.cubit_base.specs.Tuple.{TupleValue};
+ghost use Rattle.std.specs.Prelude.{◌≡◌, ◌≢◌, ℕ, if◌then◌else◌, ◌≤◌, ◌<◌, ◌^◌, length, take, [], ◌∷◌, ◌++◌, slice_get, Some, None, IfSome, IsTrue, ◌↔◌};
+ghost use Rattle.cubit_base.specs.Key.{IsKey};
+ghost use Rattle.cubit_base.specs.Tuple.{TupleValue, IsTuple};
 ghost use Rattle.cubit_base.specs.LiveRow.{IsFree};
 ghost use Rattle.cubit_base.specs.Delta.{IsInsert, IsLawful, is_insert};
 ghost use Rattle.cubit_base.specs.History.{after, rows_after};
-ghost use Rattle.log_core.specs.Chain.{entry_count, delta_at};
+ghost use Rattle.log_core.specs.EntryWords.{FitsWords};
+ghost use Rattle.log_core.specs.Chain.{delta_count, entry_count, delta_at};
+ghost use Rattle.log_core.specs.Steps.{MayComeNext};
+ghost use Rattle.log_core.specs.Run.{MayCommit};
 
 use super::Core;
-use cubit_base::{Delta, Key, Tuple, laws};
+use cubit_base::{Delta, Entry, Key, Tuple, laws};
 
 type Row = (Key, Option<Tuple>);
 
@@ -27,6 +31,36 @@ fn is_live(row: &Option<Row>, key: &Key) -> bool
         Some((k, Some(_))) => k == key,
         _ => false,
     }
+}
+
+// A key, a tuple, and those of a delta are within their ranges. These do nothing: where they are called, that is known.
+fn is_key(key: &Key)
+    ensures key { IsKey key.now }
+    ensures order { key.now.order < 2 ^ 32 }
+{
+    let _order = key.order;
+}
+
+fn is_tuple(tuple: &Option<Tuple>)
+    ensures { IfSome tuple.now IsTuple }
+{
+    match tuple {
+        Some(tuple) => {
+            let _day = tuple.day;
+        }
+        None => {}
+    }
+}
+
+fn is_within(delta: &Delta)
+    ensures key { IsKey delta.now.key }
+    ensures order { delta.now.key.order < 2 ^ 32 }
+    ensures before { IfSome delta.now.before IsTuple }
+    ensures after { IfSome delta.now.after IsTuple }
+{
+    is_key(&delta.key);
+    is_tuple(&delta.before);
+    is_tuple(&delta.after);
 }
 
 fn rows_added(delta: &Delta) -> u32
@@ -74,6 +108,48 @@ impl Core {
     {
         laws::deltas();
         self.rows_behind(place) + rows_added(delta)
+    }
+
+    /// The entry with this delta, where that may come next of all.
+    pub(crate) fn next_entry(&self, party: u8, delta: &Delta) -> Entry
+        requires party { party < length self.now.parties }
+        requires author { delta.now.author ≡ party }
+        requires room { delta_count self.now.chain.history < self.now.terms.limits.log_limit }
+        requires lawful { IsLawful self.now.terms.limits.row_limit
+            (after self.now.terms.base self.now.chain.history) delta.now }
+        ensures fits { FitsWords result }
+        ensures next { MayComeNext self.now party (entry_count self.now.chain.history) result }
+        ensures delta { result.delta ≡ delta.now }
+    {
+        laws::deltas();
+        laws::rows();
+        laws::histories();
+        self.is_sound();
+        is_within(delta);
+        let place = self.len();
+        Entry {
+            seq: place + 1,
+            rows: self.rows_with(place, delta),
+            delta: Delta { ..*delta },
+        }
+    }
+
+    /// Whether the party may append the delta next of all.
+    pub(crate) fn may_append(&self, party: u8, delta: &Delta) -> bool
+        ensures { IsTrue result ↔ MayCommit self.now party delta.now }
+    {
+        self.is_sound();
+        let at = usize::from(party);
+        if at >= self.party_count()
+            || delta.author != party
+            || self.len() >= self.limits.log_limit
+        {
+            return false;
+        }
+        if !self.has_node(at) {
+            return false;
+        }
+        self.is_lawful_behind(self.len(), delta)
     }
 
     // A row behind a place, or none past the last one.

@@ -1,7 +1,7 @@
 //! What a core holds.
 ghost use Rattle.std.specs.Prelude.{◌≡◌, ℕ, ◌+◌, ◌*◌, ◌≤◌, ◌<◌, length, slice_index, IfSome, IfNone, IsTrue, ◌↔◌};
-ghost use Rattle.log_core.specs.Terms.{first_node};
-ghost use Rattle.log_core.specs.Chain.{tail, node_at, IsNodeAt, delta_count, entry_count, end_at};
+ghost use Rattle.log_core.specs.Terms.{share, first_node};
+ghost use Rattle.log_core.specs.Chain.{tail, link, node_at, IsNodeAt, delta_count, entry_count, end_at};
 ghost use Rattle.log_core.specs.Core.{party as party_of};
 ghost use Rattle.log_core.specs.Steps.{IsNextNode, MayRead, tail_end};
 
@@ -46,6 +46,14 @@ impl Core {
         ensures { result ≡ tail self.now.words }
     {
         self.words[0] as u32
+    }
+
+    /// The node that the tail links to, or 0.
+    pub(crate) fn tail_link(&self) -> u32
+        ensures { result ≡ link self.now.words (tail self.now.words) }
+    {
+        self.is_sound();
+        self.word(5 * self.tail() as usize + 5) as u32
     }
 
     /// The last node of the chain.
@@ -118,14 +126,30 @@ impl Core {
         first
     }
 
+    /// Whether the party has a node left.
+    pub(super) fn has_node(&self, party: usize) -> bool
+        requires { party < length self.now.parties }
+        ensures { IsTrue result ↔ ((party_of self.now party).used < share self.now.terms party) }
+    {
+        self.is_sound();
+        self.party(party).used < self.shares[party]
+    }
+
+    /// The party's next node.
+    pub(crate) fn next_node(&self, party: usize) -> u32
+        requires party { party < length self.now.parties }
+        requires node { (party_of self.now party).used < share self.now.terms party }
+        ensures { IsNextNode self.now party result }
+    {
+        self.is_sound();
+        self.first_node(party) + self.party(party).used
+    }
+
     /// Whether this is the party's next node.
     pub(super) fn is_next_node(&self, party: usize, node: u32) -> bool
         requires { party < length self.now.parties }
         ensures { IsTrue result ↔ IsNextNode self.now party node }
     {
-        self.is_sound();
-        let first = self.first_node(party);
-        let used = self.party(party).used;
-        used < self.shares[party] && node == first + used
+        self.has_node(party) && node == self.next_node(party)
     }
 }

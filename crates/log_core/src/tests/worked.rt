@@ -1,6 +1,8 @@
 use super::{core, stores};
-use crate::laws::front_alone;
+use crate::entry_words::from_words;
+use crate::laws::{commit_alone, front_alone, may_commit_alone};
 use crate::{Core, Seen, Step};
+use cubit_base::Delta;
 use std::test::Fail;
 
 // The update of key 1.1 to quantity 18 by author 0, first in a log; that of key 1.2 to quantity 1 by author 1, second.
@@ -264,6 +266,83 @@ fn a_front_taken_alone(rt: HostRuntime) -> Result<(), Fail> {
         let seen = front_alone(&mut core, party);
         let expected = [Seen::Value(0), Seen::Value(node), Seen::Value(counts)];
         assert_eq!(rt; seen, expected, "of {party}");
+    }
+    Ok(())
+}
+
+fn delta(words: [u64; 4]) -> Option<Delta> {
+    let entry = from_words(&words)?;
+    Some(entry.delta)
+}
+
+// Appends a delta alone where that may be, and answers with the front taken afterwards.
+fn commits(core: &mut Core, party: u8, delta: &Delta) -> Option<[Seen; 3]> {
+    if !may_commit_alone(core, party, delta) {
+        return None;
+    }
+    commit_alone(core, party, delta);
+    if usize::from(party) >= core.party_count() {
+        return None;
+    }
+    Some(front_alone(core, party))
+}
+
+// A party commits alone, wherever another one stopped.
+#[test]
+fn a_commit_made_alone(rt: HostRuntime) -> Result<(), Fail> {
+    let Some(new) = delta([NEW[0], NEW[1] + AUTHOR, NEW[2], NEW[3]]) else {
+        assert!(rt; false);
+        return Ok(());
+    };
+    let [a, b, c, d] = stores(1, FIRST);
+    let (link, swap) = (
+        Step::LoadLink { node: 0 },
+        Step::SwapLink { node: 0, to: 1 },
+    );
+    let moved = Step::SwapTail { from: 0, to: 1 };
+    for made in 0..9 {
+        let mut core = core(rt.alloc(), &[1, 1], 16, 2)?;
+        for (at, step) in [a, b, c, d, Step::LoadTail, link, swap, moved]
+            .into_iter()
+            .enumerate()
+        {
+            if at < made {
+                assert!(rt; core.step(0, &step).is_ok(), "{at} of {made}");
+            }
+        }
+        let seq = if made < 7 { 1 } else { 2 };
+        let counts = NEW[1] + AUTHOR + seq - 1;
+        let expected = [Seen::Value(2), Seen::Value(0), Seen::Value(counts)];
+        assert_eq!(rt; commits(&mut core, 1, &new), Some(expected), "after {made}");
+        // Its one node is used.
+        assert_eq!(rt; commits(&mut core, 1, &new), None, "after {made}");
+    }
+    Ok(())
+}
+
+// What a party may commit.
+#[test]
+fn commits_that_may_be(rt: HostRuntime) -> Result<(), Fail> {
+    let gone = [FIRST[0], FIRST[1], FIRST[2], 0];
+    for (at, (party, share, row_limit, log_limit, words, may)) in [
+        (0, 1, 3, 1, FIRST, true),
+        (0, 1, 4, 1, NEW, true),
+        (0, 1, 3, 1, gone, true),
+        (1, 1, 4, 1, FIRST, false),
+        (2, 1, 4, 1, FIRST, false),
+        (0, 0, 4, 1, FIRST, false),
+        (0, 1, 4, 0, FIRST, false),
+        (0, 1, 3, 1, NEW, false),
+    ]
+    .into_iter()
+    .enumerate()
+    {
+        let Some(delta) = delta(words) else {
+            assert!(rt; false, "at {at}");
+            continue;
+        };
+        let mut core = core(rt.alloc(), &[share, 1], row_limit, log_limit)?;
+        assert_eq!(rt; commits(&mut core, party, &delta).is_some(), may, "at {at}");
     }
     Ok(())
 }

@@ -1,4 +1,4 @@
-use Rattle.std.proofs.Common.{◌≡◌, [], ◌∷◌, ◌++◌, List, slice_get, Some, sym, ◌∙◌}
+use Rattle.std.proofs.Common.{◌≡◌, [], ◌∷◌, ◌++◌, slice_get, Some}
 use Rattle.cubit_base.specs.Table.{Row}
 use Rattle.log_core.proofs.Tables.{copied-next}
 use Rattle.log_core.proofs.machine.copied.Goals as goal

@@ -1,4 +1,4 @@
-use Rattle.std.proofs.Common.{◌≤◌, arith}
+use Rattle.std.proofs.Common.{arith}
 use Rattle.log_core.proofs.Looks.{sound-seen}
 use Rattle.log_core.proofs.machine.Core.join.Goals as goal
 

@@ -1,4 +1,4 @@
-use Rattle.std.proofs.Common.{◌+◌, ◌*◌, ◌<◌, arith}
+use Rattle.std.proofs.Common.{arith}
 use Rattle.log_core.proofs.Bounds.{node-words}
 use Rattle.log_core.proofs.machine.Core.load_payload.Goals as goal
 

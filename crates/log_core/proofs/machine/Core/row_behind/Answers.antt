@@ -1,4 +1,4 @@
-use Rattle.std.proofs.Common.{◌<◌, arith}
+use Rattle.std.proofs.Common.{arith}
 use Rattle.log_core.proofs.Tables.{row-next}
 use Rattle.log_core.proofs.machine.Core.row_behind.Goals as goal
 

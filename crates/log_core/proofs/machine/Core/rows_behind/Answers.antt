@@ -1,4 +1,4 @@
-use Rattle.std.proofs.Common.{◌≡◌, ℕ, ◌+◌, ◌<◌, ◌≤◌, if◌then◌else◌, take, sym, ap, ◌∙◌, arith}
+use Rattle.std.proofs.Common.{◌≡◌, ◌+◌, if◌then◌else◌, take, sym, ap, ◌∙◌, arith}
 use Rattle.cubit_base.specs.Delta.{is_insert}
 use Rattle.cubit_base.specs.History.{rows_after}
 use Rattle.cubit_base.specs.declared.delta.Delta.{Delta}

@@ -1,4 +1,4 @@
-use Rattle.std.proofs.Common.{◌+◌, ◌≤◌, arith}
+use Rattle.std.proofs.Common.{◌+◌, arith}
 use Rattle.log_core.proofs.Ends.{end_at-within}
 use Rattle.log_core.proofs.Looks.{sound-seen}
 use Rattle.log_core.proofs.machine.Core.see_next.Goals as goal

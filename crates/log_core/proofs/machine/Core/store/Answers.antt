@@ -1,4 +1,4 @@
-use Rattle.std.proofs.Common.{◌≡◌, ◌+◌, ◌*◌, ◌<◌, ◌≤◌, ap, arith, rules, subst, sym, ℕ, List, set}
+use Rattle.std.proofs.Common.{◌≡◌, ◌+◌, ◌*◌, arith, rules, subst, sym, set}
 use Rattle.log_core.specs.Core.{IsSound}
 use Rattle.log_core.specs.Steps.{IsNextNode}
 use Rattle.log_core.proofs.Bounds.{next-words}

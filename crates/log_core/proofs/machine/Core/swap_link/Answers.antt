@@ -1,4 +1,4 @@
-use Rattle.std.proofs.Common.{◌≡◌, ◌+◌, ◌*◌, ◌<◌, ◌≤◌, sym, ◌∙◌, arith}
+use Rattle.std.proofs.Common.{sym, ◌∙◌, arith}
 use Rattle.log_core.proofs.Ends.{end_at-place}
 use Rattle.log_core.proofs.Nodes.{empty-last}
 use Rattle.log_core.proofs.Bounds.{node-words, next-words}
