@@ -119,7 +119,7 @@ static double seconds_since(Clock::time_point began)
     return std::chrono::duration<double>(Clock::now() - began).count();
 }
 
-static uint64_t checksum(const std::string &text)
+static uint64_t checksum(std::string_view text)
 {
     uint64_t sum = 0;
     for (unsigned char b : text)
@@ -137,10 +137,11 @@ int main(int count, char **words)
     }
     Report report = drawn(strtoul(words[1], nullptr, 10), strtoul(words[2], nullptr, 10));
     double write = 1e9, read = 1e9;
-    std::string text;
+    std::optional<Writer> writer;
+    std::string_view text;
     for (int round = 0; round < rounds; round++) {
         auto began = Clock::now();
-        text = Writer().written(report);
+        text = writer.emplace().written(report);
         write = std::min(write, seconds_since(began));
         began = Clock::now();
         std::optional<Report> again = Reader(text).report();

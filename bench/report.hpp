@@ -3,10 +3,12 @@
  * by hand: what the program beside it measures. The reader takes exactly the texts that the writer writes.
  */
 #pragma once
+#include <algorithm>
 #include <array>
 #include <charconv>
 #include <cstdint>
 #include <cstring>
+#include <memory>
 #include <optional>
 #include <string>
 #include <string_view>
@@ -83,16 +85,35 @@ static const std::vector<std::array<char, 10>> DATES = [] {
 /* ---- the writer */
 
 class Writer {
-    std::string text;
+    // A line without a list takes less than this, and a number of a list less than that.
+    static constexpr size_t LINE = 512, NUMBER = 16;
 
-    template <size_t N> void label(const char (&label)[N]) { text.append(label, N - 1); }
+    std::unique_ptr<char[]> text;
+    char *at = nullptr, *end = nullptr;
 
-    template <typename Number> void number(Number n)
+    // Room for so many bytes more.
+    void reserve(size_t more)
     {
-        char digits[20];
-        auto end = std::to_chars(digits, digits + sizeof digits, n).ptr;
-        text.append(digits, end - digits);
+        if (size_t(end - at) >= more)
+            return;
+        size_t size = size_t(at - text.get()), room = std::max(2 * size, size + more);
+        std::unique_ptr<char[]> larger(new char[room]);
+        if (size > 0)
+            memcpy(larger.get(), text.get(), size);
+        text = std::move(larger);
+        at = text.get() + size;
+        end = text.get() + room;
     }
+
+    void byte(char c) { *at++ = c; }
+
+    template <size_t N> void label(const char (&label)[N])
+    {
+        memcpy(at, label, N - 1);
+        at += N - 1;
+    }
+
+    template <typename Number> void number(Number n) { at = std::to_chars(at, at + 20, n).ptr; }
 
     template <size_t N> void field(const char (&name)[N], uint32_t n)
     {
@@ -102,15 +123,15 @@ class Writer {
 
     void pair(unsigned n)
     {
-        char digits[2] = { char('0' + n / 10), char('0' + n % 10) };
-        text.append(digits, 2);
+        byte(char('0' + n / 10));
+        byte(char('0' + n % 10));
     }
 
     void hundredths(uint32_t n)
     {
-        text.push_back('|');
+        byte('|');
         number(n / 100);
-        text.push_back('.');
+        byte('.');
         pair(n % 100);
     }
 
@@ -121,8 +142,9 @@ class Writer {
         hundredths(t.disc);
         hundredths(t.tax);
         char letters[5] = { '|', t.flag, '|', t.status, '|' };
-        text.append(letters, 5);
-        text.append(DATES[t.day].data(), 10);
+        memcpy(at, letters, 5);
+        memcpy(at + 5, DATES[t.day].data(), 10);
+        at += 15;
     }
 
     void held(const std::optional<Tuple> &t)
@@ -130,13 +152,13 @@ class Writer {
         if (t)
             tuple(*t);
         else
-            text.push_back('-');
+            byte('-');
     }
 
     void sum(uint64_t units)
     {
         number(units / 10000);
-        text.push_back('.');
+        byte('.');
         pair(units % 10000 / 100);
         pair(units % 100);
     }
@@ -156,7 +178,8 @@ class Writer {
         field("drop deleted=", deleted);
         for (int i = 0; i < 7; i++) {
             char label[4] = { ' ', char('1' + i), '=', r.lines[i].letter };
-            text.append(label, 4);
+            memcpy(at, label, 4);
+            at += 4;
             number(r.lines[i].number);
         }
     }
@@ -170,13 +193,14 @@ class Writer {
 
     void put(const Rows &r)
     {
+        reserve(LINE + NUMBER * r.list.size());
         field("rows front=", r.front), field(" count=", r.list.size());
         label(" list=");
         if (r.list.empty())
-            text.push_back('-');
+            byte('-');
         for (size_t i = 0; i < r.list.size(); i++) {
             if (i > 0)
-                text.push_back(',');
+                byte(',');
             number(r.list[i]);
         }
         field(" patched=", r.patched);
@@ -210,32 +234,40 @@ class Writer {
 
     void delta(uint32_t place, const Delta &d)
     {
+        reserve(LINE);
         number(place);
         field(" w", d.author), field(" ", d.order), field(".", d.line), field(" row=", d.row);
         label(" old=");
         held(d.before);
         label(" new=");
         held(d.after);
-        text.push_back('\n');
+        byte('\n');
     }
 
 public:
-    std::string written(const Report &report)
+    // The text, which stands as long as its writer.
+    std::string_view written(const Report &report)
     {
+        size_t replies = 0;
+        for (const auto &list : report.replies)
+            replies += list.size();
+        reserve(64 * replies + 128 * report.journal.size());
         for (size_t worker = 0; worker < report.replies.size(); worker++) {
             uint32_t number = 0;
             for (const Reply &reply : report.replies[worker]) {
+                reserve(LINE);
                 field("w", worker), field(" ", ++number);
-                text.push_back(' ');
+                byte(' ');
                 std::visit([this](const auto &r) { put(r); }, reply);
-                text.push_back('\n');
+                byte('\n');
             }
         }
+        reserve(LINE);
         field("journal ", report.journal.size());
-        text.push_back('\n');
+        byte('\n');
         for (size_t place = 0; place < report.journal.size(); place++)
             delta(place, report.journal[place]);
-        return std::move(text);
+        return { text.get(), size_t(at - text.get()) };
     }
 };
 
