@@ -6,4 +6,5 @@ pub mod LiveRows
 pub mod LiveHistories
 pub mod Outcomes
 pub mod Words
+pub mod EntryWords
 mod Ranges

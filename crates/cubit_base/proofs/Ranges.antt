@@ -1,5 +1,5 @@
 -- Tuples within their ranges, in tables and after histories.
-use Rattle.std.proofs.Common.{ℕ, zero, suc, ◌<◌, List, [], ◌∷◌, length, get_or, All, Option, Some, None, IfSome, arith}
+use Rattle.std.proofs.Common.{ℕ, zero, suc, List, [], ◌∷◌, All, Option, IfSome, arith}
 use Rattle.std.proofs.lemmas.List.Elements.{All-nil, All-cons}
 use Rattle.cubit_base.specs.Key.{KeyValue}
 use Rattle.cubit_base.specs.Tuple.{TupleValue, IsTuple}

@@ -3,6 +3,7 @@ pub mod Change
 pub mod Command
 pub mod Day
 pub mod Delta
+pub mod EntryWords
 pub mod History
 pub mod Key
 pub mod LiveRow

@@ -4,6 +4,8 @@ ghost use Rattle.std.specs.Prelude.{◌≡◌, ◌≢◌, ◌↔◌, ℕ, ◌+�
 ghost use Rattle.cubit_base.specs.Key.{KeyValue};
 ghost use Rattle.cubit_base.specs.Tuple.{TupleValue, IsTuple};
 ghost use Rattle.cubit_base.specs.Word.{tuple_word};
+ghost use Rattle.cubit_base.specs.EntryWords.{FitsWords, entry_words};
+ghost use Rattle.cubit_base.specs.declared.entry.Entry.{Entry as EntryValue};
 ghost use Rattle.cubit_base.specs.Table.{Row, HasDistinctKeys, HasTuples};
 ghost use Rattle.cubit_base.specs.LiveRow.{tuple_at, IsFree, HasDistinctLiveKeys, live_row};
 ghost use Rattle.cubit_base.specs.Delta.{applied, IsLawful, is_insert};
@@ -11,9 +13,10 @@ ghost use Rattle.cubit_base.specs.History.{after, rows_after, IsHistory, LeavesT
 ghost use Rattle.cubit_base.specs.Change.{Change, Placed, outcome, key_of};
 ghost use Rattle.cubit_base.specs.declared.delta.Delta.{Delta};
 
-/// A word tells its tuple.
+/// A word tells its tuple, and four words their entry.
 pub fn words()
     ensures tuple { (a b : TupleValue) → IsTuple a → IsTuple b → tuple_word a ≡ tuple_word b → a ≡ b }
+    ensures entry { (a b : EntryValue) → FitsWords a → FitsWords b → entry_words a ≡ entry_words b → a ≡ b }
 {}
 
 /// One delta over a table.

@@ -3,8 +3,7 @@ use Rattle.std.proofs.Common.{◌≡◌, ℕ, ◌+◌, ◌*◌, ◌<◌, ◌≤�
 use mathlib.Core.Logic.{dite}
 use native.Mathlib.Decide.{dec_lt}
 use Rattle.std.proofs.lemmas.List.{get_or_past}
-use Rattle.std.proofs.lemmas.List.Sums.{sum_by-take-le}
-use Rattle.log_core.specs.Terms.{CoreTerms, share, first_node, node_count, AreTerms}
+use Rattle.log_core.specs.Terms.{share, first_node, node_count, AreTerms}
 use Rattle.log_core.specs.Chain.{tail, link, node_at, IsNodeAt}
 use Rattle.log_core.specs.Core.{CoreValue, party, IsSound}
 use Rattle.log_core.specs.Steps.{IsNextNode}

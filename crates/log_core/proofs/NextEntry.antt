@@ -9,7 +9,7 @@ use Rattle.cubit_base.specs.Delta.{applied, IsLawful}
 use Rattle.cubit_base.specs.History.{after, rows_after, IsHistory}
 use Rattle.cubit_base.specs.declared.delta.Delta.{Delta}
 use Rattle.cubit_base.specs.declared.entry.Entry.{Entry}
-use Rattle.log_core.specs.EntryWords.{FitsWords}
+use Rattle.cubit_base.specs.EntryWords.{FitsWords}
 use Rattle.log_core.specs.Terms.{AreTerms}
 use Rattle.log_core.specs.Core.{CoreValue, IsSound}
 use Rattle.log_core.specs.Steps.{MayComeNext}

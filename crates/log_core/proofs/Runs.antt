@@ -5,7 +5,7 @@ use Rattle.log_core.specs.declared.step.Seen.{Seen}
 use Rattle.log_core.specs.Core.{CoreValue, IsSound}
 use Rattle.log_core.specs.Steps.{TakesStep, IsLawfulStep}
 use Rattle.log_core.specs.Run.{RunsAlone, IsLawfulRun, EndsIn}
-use Rattle.log_core.proofs.Entries.{TellsTuple}
+use Rattle.log_core.proofs.Entries.{TellsEntry}
 use Rattle.log_core.proofs.Keeping.{keeps-sound}
 use Rattle.log_core.proofs.Same.{takes-one}
 
@@ -40,7 +40,7 @@ goes-lawful core here p steps left rest step (answers, next, r) goes is =
     let g = goes answers next r in
     first-lawful p here next step rest g.0 (subst (λ s. RunsAlone here p s g.0 next) is g.1)
 
-rest-runs : TellsTuple → (p : ℕ) (x z y : CoreValue) (step : Step) (seen : Seen) (rest : List Step) (a : List Seen) →
+rest-runs : TellsEntry → (p : ℕ) (x z y : CoreValue) (step : Step) (seen : Seen) (rest : List Step) (a : List Seen) →
     IsSound x → TakesStep x p step seen z → RunsAlone x p (step ∷ rest) a y →
     (more : List Seen) × RunsAlone z p rest more y
 rest-runs tells p x z y step seen rest [] sound takes r = absurd r
@@ -49,7 +49,7 @@ rest-runs tells p x z y step seen rest (other ∷ a) sound takes (m, takes', r) 
   subst (λ w. RunsAlone w p rest a y) (sym (takes-one tells x p step seen other z m sound takes takes').1) r,
 )
 
-pub goes-next : TellsTuple → (core here there : CoreValue) (p : ℕ) (steps left rest : List Step) (step : Step)
+pub goes-next : TellsEntry → (core here there : CoreValue) (p : ℕ) (steps left rest : List Step) (step : Step)
     (seen : Seen) → IsSound here → GoesOn core p steps here left → left ≡ step ∷ rest →
     TakesStep here p step seen there → GoesOn core p steps there rest
 goes-next tells core here there p steps left rest step seen sound goes is takes answers next r =

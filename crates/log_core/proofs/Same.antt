@@ -11,12 +11,12 @@ use Rattle.log_core.specs.Terms.{CoreTerms}
 use Rattle.log_core.specs.Chain.{Chain, tail, link, node_at, no_delta, HasEntry, IsNodeAt, IsLinked, IsFilled, entry_at}
 use Rattle.log_core.specs.Core.{CoreValue, IsSound}
 use Rattle.log_core.specs.Steps.{sees_next, reaches_next, linked, tail_moved, Gives, TakesStep}
-use Rattle.log_core.proofs.Entries.{TellsTuple, entry-told, four-words}
+use Rattle.log_core.proofs.Entries.{TellsEntry, four-words}
 use Rattle.log_core.proofs.Nodes.{node-positive, last-link, one-place}
 
-same-entry : TellsTuple → (ws : List ℕ) (n : ℕ) (a b : Entry) → HasEntry ws n a → HasEntry ws n b → a ≡ b
+same-entry : TellsEntry → (ws : List ℕ) (n : ℕ) (a b : Entry) → HasEntry ws n a → HasEntry ws n b → a ≡ b
 same-entry tells ws n a b ha hb =
-    entry-told tells a b ha.fits hb.fits (sym (four-words ws n a ha) ∙ four-words ws n b hb)
+    tells a b ha.fits hb.fits (sym (four-words ws n a ha) ∙ four-words ws n b hb)
 
 module _ (t : CoreTerms) (ws : List ℕ) where
   same-node : (a b : Chain) → IsLinked t ws a → IsLinked t ws b → (k : ℕ) → k < length a.nodes →
@@ -40,7 +40,7 @@ module _ (t : CoreTerms) (ws : List ℕ) where
       absurd (omega arith))
       (λ ge. omega arith)
 
-  module _ (tells : TellsTuple) (a b : Chain) (la : IsLinked t ws a) (fa : IsFilled t ws a) (lb : IsLinked t ws b)
+  module _ (tells : TellsEntry) (a b : Chain) (la : IsLinked t ws a) (fa : IsFilled t ws a) (lb : IsLinked t ws b)
       (fb : IsFilled t ws b) where
     same-length : length a.nodes ≡ length b.nodes
     same-length = let x = no-longer a b la fa lb fb in let y = no-longer b a lb fb la fa in omega arith
@@ -61,7 +61,7 @@ module _ (t : CoreTerms) (ws : List ℕ) where
         (same-entry tells ws (node_at b (k + 1)) (entry_at t a.history k) (entry_at t b.history k) there
         (fb.entries k (omega arith))))
 
-pub same-chain : TellsTuple → (a b : CoreValue) → IsSound a → IsSound b → a.terms ≡ b.terms → a.words ≡ b.words →
+pub same-chain : TellsEntry → (a b : CoreValue) → IsSound a → IsSound b → a.terms ≡ b.terms → a.words ≡ b.words →
     a.chain ≡ b.chain
 same-chain tells a b sa sb terms words =
     let la = subst (λ t. IsLinked t b.words a.chain) terms
@@ -83,7 +83,7 @@ same-chain tells a b sa sb terms words =
     (record { within = omega arith; is = sym sb.tail.is }) in
     λ i. record { nodes = nodes i; history = history i; tail_place = place i }
 
-module _ (tells : TellsTuple) (c : CoreValue) (s : IsSound c) (p : ℕ) where
+module _ (tells : TellsEntry) (c : CoreValue) (s : IsSound c) (p : ℕ) where
   place-same : (n j k : ℕ) → IsNodeAt c.chain n j → IsNodeAt c.chain n k → j ≡ k
   place-same n j k x y = one-place c.terms c.words c.chain s.linked s.filled n j k x y
 
@@ -114,6 +114,6 @@ module _ (tells : TellsTuple) (c : CoreValue) (s : IsSound c) (p : ℕ) where
   gives-one Note a b y z g h = (g.0 ∙ sym h.0, g.1 ∙ sym h.1)
   gives-one (Join note) a b y z g h = (g.1 ∙ sym h.1, g.2 ∙ sym h.2)
 
-pub takes-one : TellsTuple → (core : CoreValue) (p : ℕ) (step : Step) (a b : Seen) (y z : CoreValue) → IsSound core →
+pub takes-one : TellsEntry → (core : CoreValue) (p : ℕ) (step : Step) (a b : Seen) (y z : CoreValue) → IsSound core →
     TakesStep core p step a y → TakesStep core p step b z → (a ≡ b) × (y ≡ z)
 takes-one tells core p step a b y z s g h = gives-one tells core s p step a b y z g.gives h.gives

@@ -5,7 +5,7 @@ use Rattle.cubit_base.specs.declared.entry.Entry.{Entry}
 use Rattle.log_core.specs.declared.party.Party.{Party}
 use Rattle.log_core.specs.declared.step.Seen.{Seen}
 use Rattle.log_core.specs.declared.step.Seen.TheVariants.{Value, Swapped, Done}
-use Rattle.log_core.specs.EntryWords.{FitsWords}
+use Rattle.cubit_base.specs.EntryWords.{FitsWords}
 use Rattle.log_core.specs.Chain.{tail, link, node_at, end_at}
 use Rattle.log_core.specs.Core.{CoreValue, party, IsSound}
 use Rattle.log_core.specs.Steps.{IsNextNode, MayComeNext, sees, tail_loaded}

@@ -4,7 +4,7 @@ use Rattle.cubit_base.specs.declared.entry.Entry.{Entry}
 use Rattle.log_core.specs.declared.party.Party.{Party}
 use Rattle.log_core.specs.declared.step.Step.TheVariants.{Store}
 use Rattle.log_core.specs.declared.step.Seen.TheVariants.{Done}
-use Rattle.log_core.specs.EntryWords.{FitsWords, entry_words}
+use Rattle.cubit_base.specs.EntryWords.{FitsWords, entry_words}
 use Rattle.log_core.specs.Chain.{tail, payload_place, link_place, payload, link, HasEntry}
 use Rattle.log_core.specs.Core.{CoreValue, newcomer, party, IsSound}
 use Rattle.log_core.specs.Steps.{IsNextNode, MayComeNext, TakesStep}

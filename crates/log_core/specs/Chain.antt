@@ -4,7 +4,7 @@ use Rattle.std.specs.List.{count_by}
 use Rattle.cubit_base.specs.History.{rows_after}
 use Rattle.cubit_base.specs.declared.delta.Delta.{Delta}
 use Rattle.cubit_base.specs.declared.entry.Entry.{Entry}
-use Rattle.log_core.specs.EntryWords.{FitsWords, entry_words}
+use Rattle.cubit_base.specs.EntryWords.{FitsWords, entry_words}
 use Rattle.log_core.specs.Terms.{CoreTerms, first_node, node_count}
 
 -- word 0 is the tail; a node has four payload words, and behind them its link

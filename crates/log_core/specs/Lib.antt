@@ -1,6 +1,5 @@
 pub mod Chain
 pub mod Core
-pub mod EntryWords
 pub mod Growing
 pub mod HeldCore
 pub mod Run

@@ -8,7 +8,7 @@ use Rattle.log_core.specs.declared.step.Step.{Step}
 use Rattle.log_core.specs.declared.step.Step.TheVariants.{Store, LoadTail, LoadLink, LoadPayload, SwapLink, SwapTail}
 use Rattle.log_core.specs.declared.step.Seen.{Seen}
 use Rattle.log_core.specs.declared.step.Seen.TheVariants.{Value, Swapped, Done}
-use Rattle.log_core.specs.EntryWords.{entry_words}
+use Rattle.cubit_base.specs.EntryWords.{entry_words}
 use Rattle.log_core.specs.Terms.{share}
 use Rattle.log_core.specs.Chain.{delta_count, entry_count}
 use Rattle.log_core.specs.Core.{CoreValue, party as party_of}

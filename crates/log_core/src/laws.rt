@@ -2,8 +2,7 @@
 //!
 //! The functions without arguments do nothing: where one is called, its clauses are known.
 ghost use Rattle.std.specs.Prelude.{◌≡◌, ℕ, ◌<◌, ◌≤◌, [], ◌∷◌, ◌++◌, length, IsTrue, ◌↔◌};
-ghost use Rattle.cubit_base.specs.declared.entry.Entry.{Entry as EntryValue};
-ghost use Rattle.log_core.specs.EntryWords.{FitsWords, entry_words};
+ghost use Rattle.cubit_base.specs.EntryWords.{FitsWords};
 ghost use Rattle.log_core.specs.Chain.{tail, link, node_at, IsNodeAt, delta_count, entry_count, end_at};
 ghost use Rattle.log_core.specs.Core.{CoreValue, party as party_of, IsSound};
 ghost use Rattle.log_core.specs.Growing.{HasGrown, behind};
@@ -12,16 +11,8 @@ ghost use Rattle.log_core.specs.Run.{IsLawfulRun, EndsIn, TakesFront, stores as 
 ghost use Rattle.log_core.specs.declared.step.Step.{Step as StepValue};
 ghost use Rattle.log_core.specs.declared.step.Seen.{Seen as SeenValue};
 
-use crate::entry_words::to_words;
 use crate::{Core, Seen, Step};
 use cubit_base::{Delta, Entry};
-
-/// The words of an entry tell it.
-pub fn entries()
-    ensures words { (a b : EntryValue) → FitsWords a → FitsWords b → entry_words a ≡ entry_words b → a ≡ b }
-{
-    cubit_base::laws::words();
-}
 
 /// Steps of whichever party.
 pub fn steps()
@@ -124,12 +115,12 @@ pub fn commit_alone(core: &mut Core, party: u8, delta: &Delta)
 }
 
 // The stores of an entry.
-#[tactic(auto, unfolding(crate::specs::EntryWords::entry_words))]
+#[tactic(auto, unfolding(cubit_base::specs::EntryWords::entry_words))]
 fn stores(node: u32, entry: &Entry) -> [Step; 4]
     requires { FitsWords entry.now }
     ensures { result ≡ stores_of node entry.now }
 {
-    let [place, counts, before, after] = to_words(entry);
+    let [place, counts, before, after] = entry.to_words();
     [
         Step::Store {
             node,

@@ -14,7 +14,7 @@
 //!   (`ComesTo`). It takes no memory. `Core::is_sound`: a core is sound wherever it is lent or given back (`IsSound`).
 //!   So each schedule of any number of parties, stopped anywhere, leaves a sound log.
 //! - `laws`: each lawful step leaves a sound core, has one answer, and lets the chain grow at its end alone; the words
-//!   decide the chain; the tail is late by one node at most; the words of an entry tell it.
+//!   decide the chain; the tail is late by one node at most.
 //! - One party alone, whatever the others left half done: `laws::front_alone` takes the front of all that is there in
 //!   three steps (`TakesFront`); `laws::commit_alone` appends a delta in four stores and at most five steps after them
 //!   (`TakesCommit`), wherever `laws::may_commit_alone` says so.
@@ -37,7 +37,6 @@
 //! ```
 #![tactic(auto)]
 
-mod entry_words;
 pub mod laws;
 mod machine;
 mod party;

@@ -5,7 +5,7 @@ ghost use Rattle.cubit_base.specs.Tuple.{TupleValue, IsTuple};
 ghost use Rattle.cubit_base.specs.LiveRow.{IsFree};
 ghost use Rattle.cubit_base.specs.Delta.{IsInsert, IsLawful, is_insert};
 ghost use Rattle.cubit_base.specs.History.{after, rows_after};
-ghost use Rattle.log_core.specs.EntryWords.{FitsWords};
+ghost use Rattle.cubit_base.specs.EntryWords.{FitsWords};
 ghost use Rattle.log_core.specs.Chain.{delta_count, entry_count, delta_at};
 ghost use Rattle.log_core.specs.Steps.{MayComeNext};
 ghost use Rattle.log_core.specs.Run.{MayCommit};

@@ -6,8 +6,7 @@ ghost use Rattle.log_core.specs.Steps.{MayLink, MayComeNext, MayMoveTail, ComesT
 ghost use Rattle.log_core.specs.declared.step.Step.TheVariants.{SwapLink, SwapTail};
 
 use super::Core;
-use crate::entry_words::from_words;
-use crate::{Seen, Unlawful, laws};
+use crate::{Seen, Unlawful};
 use cubit_base::Entry;
 
 impl Core {
@@ -87,8 +86,8 @@ impl Core {
         ensures none { IfNone result ((e : EntryValue) → HasEntry self.now.words node e →
             MayComeNext self.now party place e → ⊥) }
     {
-        laws::entries();
-        let Some(entry) = from_words(&self.payload(node)) else {
+        cubit_base::laws::words();
+        let Some(entry) = Entry::from_words(&self.payload(node)) else {
             return None;
         };
         if !self.may_come_next(party, place, &entry) {

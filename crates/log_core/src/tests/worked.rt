@@ -1,8 +1,7 @@
 use super::{core, stores};
-use crate::entry_words::from_words;
 use crate::laws::{commit_alone, front_alone, may_commit_alone};
 use crate::{Core, Seen, Step};
-use cubit_base::Delta;
+use cubit_base::{Delta, Entry};
 use std::test::Fail;
 
 // The update of key 1.1 to quantity 18 by author 0, first in a log; that of key 1.2 to quantity 1 by author 1, second.
@@ -271,7 +270,7 @@ fn a_front_taken_alone(rt: HostRuntime) -> Result<(), Fail> {
 }
 
 fn delta(words: [u64; 4]) -> Option<Delta> {
-    let entry = from_words(&words)?;
+    let entry = Entry::from_words(&words)?;
     Some(entry.delta)
 }
 

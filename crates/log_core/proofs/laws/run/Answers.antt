@@ -13,6 +13,6 @@ took-requires c =
 pub loop-step-preserved : goal.loop-step-preserved
 loop-step-preserved c =
     let steps = c.args.steps.now in let i = c.loop-step.step-index in
-    goes-next c.words.ensures.tuple c.args.core.now c.loop-step.core c.took.new.core c.args.party steps (drop i steps)
+    goes-next c.words.ensures.entry c.args.core.now c.loop-step.core c.took.new.core c.args.party steps (drop i steps)
     (drop (i + 1) steps) _ c.took.result c.is_sound.ensures.sound c.loop-step.invariant
     (drop_more steps i (Store 0 0 0) c.loop-step-test.true) c.took.ensures

@@ -4,4 +4,4 @@ use Rattle.log_core.proofs.Same.{takes-one}
 use Rattle.log_core.proofs.laws.steps.Goals as goal
 
 pub returns : goal.returns
-returns c = record { sound = keeps-sound; one = takes-one c.words.ensures.tuple; grows = takes-grows }
+returns c = record { sound = keeps-sound; one = takes-one c.words.ensures.entry; grows = takes-grows }

@@ -11,7 +11,7 @@ returns-in_default-clause-none c e has may =
 pub returns-then-not-may_come_next-clause-none : goal.returns-then-not-may_come_next-clause-none
 returns-then-not-may_come_next-clause-none c e has may =
     let core = c.args.self.now in
-    let same : e ≡ c.in-Some.entry = c.entries.ensures.words e c.in-Some.entry has.fits c.in-Some.ensures.some.0
+    let same : e ≡ c.in-Some.entry = c.words.ensures.entry e c.in-Some.entry has.fits c.in-Some.ensures.some.0
     (sym (c.payload.ensures ∙ four-words core.words c.args.node e has) ∙ c.in-Some.ensures.some.1) in
     let is : IsTrue c.may_come_next.result = c.may_come_next.ensures.1
     (subst (λ (x : Entry). MayComeNext core c.args.party c.args.place x) same may) in
