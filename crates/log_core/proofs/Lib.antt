@@ -3,8 +3,10 @@ pub mod Bounds
 pub mod Commits
 pub mod Ends
 pub mod Entries
-pub mod Keeping
+pub mod Few
 pub mod Grown
+pub mod Keeping
+pub mod Linking
 pub mod Links
 pub mod Looks
 pub mod Made

@@ -17,31 +17,9 @@ use Rattle.log_core.specs.Core.{CoreValue, newcomer, party, IsSoundParty, IsSoun
 use Rattle.log_core.specs.Steps.{MayLink, MayComeNext, links, linked}
 use Rattle.log_core.proofs.Ends.{end_at-within, end_at-greater, end_at-last, end_at-kept, end_at-grows, end_at-appended, length-appended, delta_at-kept, delta_at-appended}
 use Rattle.log_core.proofs.Nodes.{empty-last, node-inside, node-small}
+use Rattle.log_core.proofs.Linking.{each-place, history-appended, payload-link, other-link, own-link, tail-link}
 use Rattle.log_core.proofs.Looks.{keeps-shares}
 use Rattle.log_core.proofs.Stores.{next-outside}
-
--- each place of a longer list is an old one, or the last
-each-place : (P : ℕ → Type 0) (n k : ℕ) → k < n + 1 → (k < n → P k) → P n → P k
-each-place P n k lt old last = dite (dec_lt k n) old (λ ge. let e : n ≡ k = omega arith in subst P e last)
-
-history-appended : (limit : ℕ) (table : List Row) (h : List Delta) (d : Delta) → IsHistory limit table h →
-    IsLawful limit (after table h) d → IsHistory limit table (h ++ d ∷ [])
-history-appended limit table [] d is lawful = (lawful, tt)
-history-appended limit table (x ∷ h) d is lawful = (is.0, history-appended limit (applied table x) h d is.1 lawful)
-
--- a link is no other word
-module _ (ws : List ℕ) (n to : ℕ) where
-  payload-link : (m w : ℕ) → w < 4 → payload (set ws (link_place n) to) m w ≡ payload ws m w
-  payload-link m w small = get_or-set_other ws (link_place n) (payload_place m w) to 0 (λ e. absurd (omega arith))
-
-  other-link : (m : ℕ) → m ≢ n → link (set ws (link_place n) to) m ≡ link ws m
-  other-link m ne = get_or-set_other ws (link_place n) (link_place m) to 0 (λ e. ne (omega arith))
-
-  own-link : 5 * n + 5 < length ws → link (set ws (link_place n) to) n ≡ to
-  own-link small = get_or-set_same ws (link_place n) to 0 small
-
-  tail-link : tail (set ws (link_place n) to) ≡ tail ws
-  tail-link = get_or-set_other ws (link_place n) 0 to 0 (λ e. absurd (omega arith))
 
 module _ (c : CoreValue) (s : IsSound c) (p n to k : ℕ) (e : Entry) (inp : p < length c.parties)
     (m : MayLink c p n to k) (has : HasEntry c.words to e) (o : MayComeNext c p k e) (free : link c.words n ≡ 0) where

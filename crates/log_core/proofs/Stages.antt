@@ -80,8 +80,8 @@ module _ (c : CoreValue) (s : IsSound c) (p n t m last : ℕ) (inp : p < length 
   ready-second : IsReady second p n e
   ready-second =
       same-ready between p n e first.words first.chain.tail_place first.noted seer inp-between refl
-      (same-ready first p n e first.words first.chain.tail_place first.noted (tail_loaded first (party first p)) inp refl
-      (stored-ready c s p n inp e fits ready))
+      (same-ready first p n e first.words first.chain.tail_place first.noted (tail_loaded first (party first p)) inp
+      refl (stored-ready c s p n inp e fits ready))
 
   help-result : (z : CoreValue) × RunsAlone second p (helps t m) (helped m) z × CanAppend second z p n e
   help-result =

@@ -1,7 +1,8 @@
 -- What the fields of a core stand for.
-use Rattle.std.specs.Prelude.{◌≤◌, ◌+◌, vec_capacity}
+use Rattle.std.specs.Prelude.{◌≤◌, vec_capacity}
+use Rattle.std.specs.List.{sum}
 use Rattle.log_core.specs.declared.machine.Core.TheInside.{Inside}
-use Rattle.log_core.specs.Terms.{CoreTerms, AreTerms}
+use Rattle.log_core.specs.Terms.{CoreTerms, node_count, AreTerms}
 use Rattle.log_core.specs.Core.{CoreValue, IsSound}
 
 abbrev pub core_terms : Inside → CoreTerms
@@ -16,9 +17,9 @@ core_value c = record {
   noted = c.noted;
 }
 
--- it is sound, and has room for as many entries as its log limit allows
+-- it is sound, and has room for as many entries as the parties have nodes
 pub record IsHeld (c : Inside) : Type 0 where
   pub sound : IsSound (core_value c)
   pub terms : AreTerms (core_terms c)
-  pub node_room : c.limits.log_limit + 1 ≤ vec_capacity c.nodes
-  pub delta_room : c.limits.log_limit ≤ vec_capacity c.deltas
+  pub node_room : node_count (core_terms c) ≤ vec_capacity c.nodes
+  pub delta_room : sum c.shares.items ≤ vec_capacity c.deltas

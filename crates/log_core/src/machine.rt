@@ -58,15 +58,16 @@ impl Core {
           limits = limits.now;
         })) }
     {
-        let mut nodes = Vec::with_capacity(alloc, limits.log_limit as usize + 1)?;
+        let count = node_count(shares);
+        let mut nodes = Vec::with_capacity(alloc, count)?;
         nodes.push_reserved(0);
         Ok(Core {
             base: copied(alloc, base)?,
             shares: shares.to_vec(alloc)?,
             limits: *limits,
-            words: vec![in alloc; 0; 5 * node_count(shares) + 1]?,
+            words: vec![in alloc; 0; 5 * count + 1]?,
             nodes,
-            deltas: Vec::with_capacity(alloc, limits.log_limit as usize)?,
+            deltas: Vec::with_capacity(alloc, count - 1)?,
             tail_place: 0,
             parties: vec![in alloc; Party::newcomer(); shares.len()]?,
             noted: 0,

@@ -1,5 +1,5 @@
 //! What a step does to a core. Each of these is called where the core that it leaves is known to be sound.
-ghost use Rattle.std.specs.Prelude.{◌≡◌, ◌+◌, ◌*◌, ◌^◌, ◌<◌, ◌≤◌, length, slice_set};
+ghost use Rattle.std.specs.Prelude.{◌≡◌, ◌+◌, ◌*◌, ◌^◌, ◌<◌, ◌≤◌, length, slice_set, sum};
 ghost use Rattle.log_core.specs.Chain.{delta_count, entry_count};
 ghost use Rattle.log_core.specs.Core.{party as party_of, with_party, IsSound};
 ghost use Rattle.log_core.specs.Steps.{sees_next, reaches_next, linked, tail_moved};
@@ -69,7 +69,7 @@ impl Core {
         requires party { party < length self.old.parties }
         requires node { 5 * node + 5 < length self.old.words }
         requires place { place ≤ entry_count self.old.chain.history }
-        requires room { delta_count self.old.chain.history < self.old.terms.limits.log_limit }
+        requires room { delta_count self.old.chain.history < sum self.old.terms.shares }
         requires used { (party_of self.old party).used < 2 ^ 31 }
         requires sound { IsSound (linked self.old party node to place delta.now) }
         ensures { self.new ≡ linked self.old party node to place delta.now }

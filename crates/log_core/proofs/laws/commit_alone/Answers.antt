@@ -29,8 +29,8 @@ run-requires-2 c =
     (subst (λ q. IsNextNode core q n) c.from.ensures c.next_node-node.ensures)
     c.next_entry-entry.ensures.fits c.requires.room c.next_entry-entry.ensures.next c.tail-tail.ensures
     c.tail_link-link.ensures c.last-last.ensures in
-    let one : c.run.new.core ≡ g.one = known-end p core core g.one c.run.new.core (stores n e) stored_answers refl g.to_one
-    (subst (λ s. EndsIn core p s c.run.new.core) c.stores-stores.ensures c.run.ensures) in
+    let one : c.run.new.core ≡ g.one = known-end p core core g.one c.run.new.core (stores n e) stored_answers refl
+    g.to_one (subst (λ s. EndsIn core p s c.run.new.core) c.stores-stores.ensures c.run.ensures) in
     known-lawful p g.one c.run.new.core g.two (loads t) (loaded_answers t m) one g.to_two
 
 pub help-requires : goal.help-requires
@@ -42,8 +42,8 @@ help-requires c =
     (subst (λ q. IsNextNode core q n) c.from.ensures c.next_node-node.ensures)
     c.next_entry-entry.ensures.fits c.requires.room c.next_entry-entry.ensures.next c.tail-tail.ensures
     c.tail_link-link.ensures c.last-last.ensures in
-    let one : c.run.new.core ≡ g.one = known-end p core core g.one c.run.new.core (stores n e) stored_answers refl g.to_one
-    (subst (λ s. EndsIn core p s c.run.new.core) c.stores-stores.ensures c.run.ensures) in
+    let one : c.run.new.core ≡ g.one = known-end p core core g.one c.run.new.core (stores n e) stored_answers refl
+    g.to_one (subst (λ s. EndsIn core p s c.run.new.core) c.stores-stores.ensures c.run.ensures) in
     let two : c.run-2.new.core ≡ g.two = known-end p g.one c.run.new.core g.two c.run-2.new.core (loads t)
     (loaded_answers t m) one g.to_two c.run-2.ensures in
     known-lawful p g.two c.run-2.new.core g.three (helps t m) (helped m) two g.to_three
@@ -57,8 +57,8 @@ run-requires-3 c =
     (subst (λ q. IsNextNode core q n) c.from.ensures c.next_node-node.ensures)
     c.next_entry-entry.ensures.fits c.requires.room c.next_entry-entry.ensures.next c.tail-tail.ensures
     c.tail_link-link.ensures c.last-last.ensures in
-    let one : c.run.new.core ≡ g.one = known-end p core core g.one c.run.new.core (stores n e) stored_answers refl g.to_one
-    (subst (λ s. EndsIn core p s c.run.new.core) c.stores-stores.ensures c.run.ensures) in
+    let one : c.run.new.core ≡ g.one = known-end p core core g.one c.run.new.core (stores n e) stored_answers refl
+    g.to_one (subst (λ s. EndsIn core p s c.run.new.core) c.stores-stores.ensures c.run.ensures) in
     let two : c.run-2.new.core ≡ g.two = known-end p g.one c.run.new.core g.two c.run-2.new.core (loads t)
     (loaded_answers t m) one g.to_two c.run-2.ensures in
     let three : c.help.new.core ≡ g.three = known-end p g.two c.run-2.new.core g.three c.help.new.core (helps t m)
@@ -74,8 +74,8 @@ returns c =
     (subst (λ q. IsNextNode core q n) c.from.ensures c.next_node-node.ensures)
     c.next_entry-entry.ensures.fits c.requires.room c.next_entry-entry.ensures.next c.tail-tail.ensures
     c.tail_link-link.ensures c.last-last.ensures in
-    let one : c.run.new.core ≡ g.one = known-end p core core g.one c.run.new.core (stores n e) stored_answers refl g.to_one
-    (subst (λ s. EndsIn core p s c.run.new.core) c.stores-stores.ensures c.run.ensures) in
+    let one : c.run.new.core ≡ g.one = known-end p core core g.one c.run.new.core (stores n e) stored_answers refl
+    g.to_one (subst (λ s. EndsIn core p s c.run.new.core) c.stores-stores.ensures c.run.ensures) in
     let two : c.run-2.new.core ≡ g.two = known-end p g.one c.run.new.core g.two c.run-2.new.core (loads t)
     (loaded_answers t m) one g.to_two c.run-2.ensures in
     let three : c.help.new.core ≡ g.three = known-end p g.two c.run-2.new.core g.three c.help.new.core (helps t m)
@@ -84,8 +84,16 @@ returns c =
     appended_answers three g.to_four c.run-3.ensures in
     let delta = c.next_entry-entry.ensures.delta in
     record {
-      steps = subst (λ z. TakesCommit core p c.args.delta.now z) (sym four)
-          (n, t, m, e, subst (λ q. IsNextNode core q n) c.from.ensures c.next_node-node.ensures, c.next_entry-entry.ensures.next, delta, g.whole);
+      steps = subst (λ z. TakesCommit core p c.args.delta.now z) (sym four) (
+        n,
+        t,
+        m,
+        e,
+        subst (λ q. IsNextNode core q n) c.from.ensures c.next_node-node.ensures,
+        c.next_entry-entry.ensures.next,
+        delta,
+        g.whole,
+      );
       history = ap (λ (x : CoreValue). x.chain.history) four ∙ g.history
           ∙ ap (λ (d : Delta). core.chain.history ++ d ∷ []) delta;
       nodes = ap (λ (x : CoreValue). x.chain.nodes) four ∙ g.nodes

@@ -1,6 +1,7 @@
 use Rattle.std.proofs.Common.{sym, ◌∙◌, arith}
-use Rattle.log_core.proofs.Ends.{end_at-place}
-use Rattle.log_core.proofs.Nodes.{empty-last}
+use Rattle.log_core.specs.Steps.{linked}
+use Rattle.log_core.proofs.Ends.{length-appended}
+use Rattle.log_core.proofs.Few.{entries-few}
 use Rattle.log_core.proofs.Bounds.{node-words, next-words}
 use Rattle.log_core.proofs.Links.{keeps-linked}
 use Rattle.log_core.proofs.machine.Core.swap_link.Goals as goal
@@ -20,13 +21,13 @@ link-requires-clause-node c =
 pub link-requires-clause-room : goal.link-requires-clause-room
 link-requires-clause-room c =
     let core = c.args.self.now in
-    let s = c.is_sound.ensures.sound in
-    let may = c.in-Some.ensures.some in
-    let last = empty-last core.terms core.words core.chain s.linked s.filled c.args.node c.in-Some.place may.read.at
-    (sym c.word.ensures ∙ c.if-word-ne0.false) in
-    let end = end_at-place core.chain.history c.in-Some.place (omega arith) in
-    let room = may.room in
-    omega arith
+    let to = c.args.to in
+    let d = c.in-Some-proposed.entry.delta in
+    let sound = keeps-linked core c.is_sound.ensures.sound c.args.party c.args.node to c.in-Some.place
+    c.in-Some-proposed.entry c.requires c.in-Some.ensures.some c.in-Some-proposed.ensures.some.0
+    c.in-Some-proposed.ensures.some.1 (sym c.word.ensures ∙ c.if-word-ne0.false) in
+    let few = entries-few (linked core c.args.party c.args.node to c.in-Some.place d) sound in
+    omega (arith, length-appended core.chain.history d)
 
 pub link-requires-clause-sound : goal.link-requires-clause-sound
 link-requires-clause-sound c =
