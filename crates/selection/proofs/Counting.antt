@@ -88,7 +88,7 @@ count-stretch (suc n) s =
       ]
     ]
 
-width-met : (column : Column) (range : Option Range) (stretch : Option Stretch) → IsStretch column range stretch →
+pub width-met : (column : Column) (range : Option Range) (stretch : Option Stretch) → IsStretch column range stretch →
     width_of stretch ≡ met_count column range
 width-met column None stretch are = ap width_of are
 width-met column (Some r) None are = absurd are

@@ -8,6 +8,7 @@ mod Cutting
 mod Parts
 mod Dropping
 mod Tuples
+mod Units
 mod Places
 mod Answering
 mod Paging

@@ -41,6 +41,7 @@ mod answer;
 mod asked;
 mod block;
 mod groups;
+pub mod laws;
 mod matching;
 mod months;
 mod page_rows;
