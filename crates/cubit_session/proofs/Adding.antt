@@ -17,8 +17,8 @@ begins-on log longer last first then =
     (first.0 ++ then.0, then.1 ∙ ap (λ (l : List Delta). l ++ then.0) first.1 ∙ append_assoc log first.0 then.0)
 
 -- marks up to one length, and from there on
-falls-on : (known middle last : ℕ) (marks more : List Mark) → NeverFall known marks middle → NeverFall middle more last →
-    NeverFall known (marks ++ more) last
+falls-on : (known middle last : ℕ) (marks more : List Mark) → NeverFall known marks middle →
+    NeverFall middle more last → NeverFall known (marks ++ more) last
 falls-on known middle last [] [] first then = omega (arith, first, then)
 falls-on known middle last [] (next ∷ more) first then = (omega (arith, first, then.0), then.1)
 falls-on known middle last (next ∷ marks) more first then =

@@ -1,5 +1,9 @@
 mod Adding
 mod Answering
+mod Bringing
+mod Catching
+mod Lonely
+mod Owning
 mod Replying
 mod Running
 mod Sparing

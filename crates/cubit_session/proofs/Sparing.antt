@@ -20,7 +20,8 @@ spare-changed terms a b change (Ok placed) is =
     let read = ap (λ (h : Handle). h.spare) is.reads.is in
     let after = ap (λ (h : Handle). h.spare) is.appended.is in
     omega (arith, read, after)
-spare-changed terms a b change (Err stop) is = let read = ap (λ (h : Handle). h.spare) is.reads.is in omega (arith, read)
+spare-changed terms a b change (Err stop) is =
+    let read = ap (λ (h : Handle). h.spare) is.reads.is in omega (arith, read)
 
 spare-dropped : (terms : Terms) (order number : ℕ) (before now : Told) (lines : List DropLine) →
     Drops terms order number before now lines → before.log.spare + number ≤ now.log.spare + 8

@@ -20,7 +20,8 @@ module _ (commands : List Command) (n : ℕ) (command : Command) (is : slice_get
 
   pub weight-next : weights (take (n + 1) commands) ≡ weights (take n commands) + weight_of command
   weight-next =
-      let parts = ap weights taken-next ∙ sum_by-append weight_of (take n commands) (command ∷ []) in omega (arith, parts)
+      let parts = ap weights taken-next ∙ sum_by-append weight_of (take n commands) (command ∷ []) in
+      omega (arith, parts)
 
   pub weight-left : weights (drop n commands) ≡ weight_of command + weights (drop (n + 1) commands)
   weight-left = sum_by-drop_more weight_of commands n command within

@@ -20,7 +20,8 @@ none-from n w [] some own = refl
 none-from n w (d ∷ log) some own =
     let apart : (d.author == w) ≡ false =
     subst (λ a. (a == w) ≡ false) (sym (own 0 d (omega arith))) (grind (arith, some)) in
-    cond-false {A = List (ℕ × Delta)} (d.author == w) ((n, d) ∷ filter (λ p. p.1.author == w) (enumerate_from (n + 1) log))
+    cond-false {A = List (ℕ × Delta)} (d.author == w)
+    ((n, d) ∷ filter (λ p. p.1.author == w) (enumerate_from (n + 1) log))
     (filter (λ p. p.1.author == w) (enumerate_from (n + 1) log)) apart
     ∙ none-from (n + 1) w log some (λ k e within. own (suc k) e (omega (arith, within)))
 
