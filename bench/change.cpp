@@ -8,7 +8,7 @@
  * change FILE DELTAS BESIDE ROUNDS [--quantities]
  * change FILE --peers
  */
-#include "index.hpp"
+#include "changing.hpp"
 #include "log.hpp"
 #include <chrono>
 #ifdef SQLITE
@@ -86,22 +86,6 @@ struct Drawn {
 
 /* ---- what deltas change */
 
-struct RowChange {
-    uint32_t row;
-    uint64_t before, after;
-};
-
-struct KeyChange {
-    uint32_t key, row;
-    uint64_t after;
-};
-
-struct Changes {
-    std::vector<RowChange> rows;
-    std::array<std::vector<uint32_t>, BINS + 1> turned;
-    std::array<std::vector<KeyChange>, KEY_PAGES> keys;
-};
-
 /* Calls for each number of the tags, rising, with the first and the last place that has it. */
 template <class Call>
 static void for_spans(std::vector<uint64_t> &tags, Call call)
@@ -114,25 +98,6 @@ static void for_spans(std::vector<uint64_t> &tags, Call call)
             i++;
         call(number, uint32_t(tags[first]), uint32_t(tags[i - 1]));
     }
-}
-
-static void turn(Changes &changes, uint32_t row, size_t old_bin, size_t new_bin)
-{
-    if (old_bin != new_bin) {
-        changes.turned[old_bin].push_back(row);
-        changes.turned[new_bin].push_back(row);
-    }
-}
-
-/* Both words are of tuples, since all deltas are updates. */
-static void turn_bins(Changes &changes, const std::vector<uint8_t> &month, const RowChange &change)
-{
-    Tuple a = tuple_in(change.before), b = tuple_in(change.after);
-    turn(changes, change.row, SHIP + month[a.day], SHIP + month[b.day]);
-    turn(changes, change.row, DISC + a.disc, DISC + b.disc);
-    turn(changes, change.row, QTY + a.qty - 1, QTY + b.qty - 1);
-    turn(changes, change.row, FLAG + a.flag, FLAG + b.flag);
-    turn(changes, change.row, STATUS + a.status, STATUS + b.status);
 }
 
 static Changes changes_between(Log &log, const std::vector<uint8_t> &month, const Front &from, const Front &to)
@@ -186,46 +151,6 @@ struct Store {
         return version.own ? *version.own : base;
     }
 };
-
-static Fenced patched(const Fenced &list, const std::vector<uint32_t> &turned)
-{
-    return turned.empty() ? list.copied() : Fenced(toggled(list.bitvector, turned));
-}
-
-static std::vector<uint64_t> patched(
-    const std::vector<uint64_t> &page, size_t first, const std::vector<RowChange> &rows)
-{
-    std::vector<uint64_t> out = page;
-    auto is_before = [](const RowChange &change, size_t row) { return change.row < row; };
-    auto at = std::lower_bound(rows.begin(), rows.end(), first, is_before);
-    for (; at != rows.end() && at->row < first + PAGE_ROWS; ++at)
-        out[at->row - first] = at->after;
-    return out;
-}
-
-/* Entries between those of changed keys are copied as they are. */
-static Keys patched(const Keys &page, const std::vector<KeyChange> &changes)
-{
-    Keys out;
-    out.entries.reserve(page.entries.size() + changes.size());
-    size_t from = 0;
-    for (const KeyChange &change : changes) {
-        size_t piece = page.near(change.key), behind = piece == 0 ? 0 : (piece - 1) * STEP;
-        size_t end = std::min(page.entries.size(), behind + (piece == 0 ? 0 : STEP));
-        while (behind < end && page.entries[behind].key <= change.key)
-            behind++;
-        size_t to = behind != 0 && page.entries[behind - 1].key == change.key ? behind - 1 : behind;
-        out.entries.insert(out.entries.end(), page.entries.begin() + from, page.entries.begin() + to);
-        if (change.after != 0)
-            out.entries.push_back({ change.key, change.row, change.after });
-        from = behind;
-    }
-    out.entries.insert(out.entries.end(), page.entries.begin() + from, page.entries.end());
-    out.tops.reserve(out.entries.size() / STEP + 1);
-    for (size_t i = 0; i < out.entries.size(); i += STEP)
-        out.tops.push_back(out.entries[i].key);
-    return out;
-}
 
 /* ---- calls */
 
