@@ -20,8 +20,7 @@ use Rattle.version_store.specs.Version.{Version}
 use Rattle.front_patch.specs.Taken.{fallback_count}
 use Rattle.front_patch.specs.Takes.{AreTold, length_of, least_length}
 use Rattle.selection.specs.Answered.{IsPlanOf, IsAnswered, units_at}
-use Rattle.cubit_session.specs.Run.{Setting, table_at}
-use Rattle.cubit_session.specs.Step.{Told, setting_of}
+use Rattle.cubit_session.specs.Step.{Told}
 use Rattle.cubit_session.specs.Alone.{StandsAt, patched_alone}
 
 -- no turn was lost, so each unit has a version
@@ -69,8 +68,7 @@ least-all (v ∷ versions) least merged low same =
 
 module _ (terms : Terms) (tries : ℕ) (p : Predicate) (sum : Bool) (before now : Told) (front : Front)
     (patched merged : ℕ) (some : 1 ≤ tries) (is : IsAnswered terms p sum tries before.log before.store now.log now.store
-    front patched) (same : now.log.seen ≡ before.log.seen) (stood : before.store.losses ≡ 0)
-    (stands_ : now.store.losses ≡ 0) (at : StandsAt before merged)
+    front patched) (same : now.log.seen ≡ before.log.seen) (none : now.store.losses ≡ 0) (at : StandsAt before merged)
     (units : All (IsUnit before.store.pages) (units_at is.plan is.first))
     (count : length (units_at is.plan is.first) ≡ unit_count p sum is.first.rows) where
   long : length now.log.seen ≡ length before.log.seen
@@ -81,8 +79,8 @@ module _ (terms : Terms) (tries : ℕ) (p : Predicate) (sum : Bool) (before now 
 
   lossless : fallback_count is.versions ≡ 0
   lossless = none-lost tries (fallback_count is.versions) some
-      (subst (λ a. RoseBy (tries * fallback_count is.versions) a 0) stood
-      (subst (RoseBy (tries * fallback_count is.versions) before.store.losses) stands_ is.losses))
+      (subst (λ a. RoseBy (tries * fallback_count is.versions) a 0) at.lossless
+      (subst (RoseBy (tries * fallback_count is.versions) before.store.losses) none is.losses))
 
   -- each version stands at the last merge
   told : AreTold (λ version. version) (units_at is.plan is.first) is.versions (Some at.version)
@@ -91,7 +89,7 @@ module _ (terms : Terms) (tries : ℕ) (p : Predicate) (sum : Bool) (before now 
   lengths : (i : ℕ) → i < length is.versions → length_of (get_or is.versions i None) ≡ merged
   lengths i within = by (get_or is.versions i None) refl where
     by : (v : Option Version) → get_or is.versions i None ≡ v → length_of v ≡ merged
-    by None gets = let none = has-none is.versions i within gets in absurd (omega (arith, none, lossless))
+    by None gets = let some = has-none is.versions i within gets in absurd (omega (arith, some, lossless))
     by (Some x) gets =
         let low : i < length (units_at is.plan is.first) = omega (arith, within, is.each) in
         let unit = get_or (units_at is.plan is.first) i Live in
@@ -99,15 +97,18 @@ module _ (terms : Terms) (tries : ℕ) (p : Predicate) (sum : Bool) (before now 
         (slice_get-get_or is.versions i None within ∙ ap Some gets) in
         ap (λ (v : Version). v.front.len) shown ∙ at.each unit (units i Live low)
 
-  rows : is.first.rows ≡ length (table_at (setting_of terms before.store.pages) now.log.seen (length before.log.seen))
-  rows = is.stands.rows ∙ ap (λ n. length (after terms.base (take n now.log.seen))) first-len
+  -- the rows before the query
+  abbrev rows : ℕ
+  rows = length (after terms.base (take (length before.log.seen) now.log.seen))
 
-  pub patched-is : patched ≡ patched_alone (setting_of terms before.store.pages) now.log.seen
-      (length before.log.seen) merged p sum
+  rows-are : is.first.rows ≡ rows
+  rows-are = is.stands.rows ∙ ap (λ n. length (after terms.base (take n now.log.seen))) first-len
+
+  pub patched-is : patched ≡ patched_alone p sum rows (record { placed = length before.log.seen; merged = merged })
   patched-is =
       let least = least-all is.versions is.first.len merged (omega (arith, first-len, at.within)) lengths in
-      let number : length is.versions ≡ unit_count p sum (length (table_at (setting_of terms before.store.pages)
-      now.log.seen (length before.log.seen))) = is.each ∙ count ∙ ap (unit_count p sum) rows in
+      let number : length is.versions ≡ unit_count p sum rows =
+      is.each ∙ count ∙ ap (unit_count p sum) rows-are in
       is.patched_is ∙ by (length is.versions == 0) refl least
       ∙ ap (λ n. if n == 0 then 0 else length before.log.seen - merged) number where
         by : (b : Bool) → (length is.versions == 0) ≡ b →

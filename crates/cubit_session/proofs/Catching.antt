@@ -10,7 +10,7 @@ use Rattle.merger.specs.Merge.{version_at}
 use Rattle.merger.specs.Order.{unit_at, count_units}
 use Rattle.merger.specs.All.{IsAllMerged, TellsEach, caught_up, count_at, front_of}
 use Rattle.merger.specs.declared.outcome.MergeCount.{MergeCount}
-use Rattle.cubit_session.specs.Step.{Told, setting_of}
+use Rattle.cubit_session.specs.Step.{Told}
 use Rattle.cubit_session.specs.Alone.{StandsAt, MergesAlone}
 
 is-unit : (pages place : ℕ) → place < unit_count pages → IsUnit pages (unit_at pages place)
@@ -35,13 +35,12 @@ count-same value pages len merged (suc n) few same =
 
 module _ (terms : Terms) (before now : Told) (merged : ℕ) (count : MergeCount)
     (is : IsAllMerged terms before.log before.store now.log now.store count)
-    (same : now.log.seen ≡ before.log.seen) (stood : before.store.losses ≡ 0) (stands_ : now.store.losses ≡ 0)
-    (at : StandsAt before merged) where
+    (same : now.log.seen ≡ before.log.seen) (none : now.store.losses ≡ 0) (at : StandsAt before merged) where
   long : length now.log.seen ≡ length before.log.seen
   long = ap (λ (l : List Delta). length l) same
 
   lossless : now.store.losses < min (before.store.losses + 1) (2 ^ 64 - 1)
-  lossless = omega (arith, stood, stands_)
+  lossless = omega (arith, at.lossless, none)
 
   fresh-is : count.fresh ≡ (if merged == length before.log.seen then unit_count before.store.pages else 0)
   fresh-is =
@@ -53,13 +52,17 @@ module _ (terms : Terms) (before now : Told) (merged : ℕ) (count : MergeCount)
 
   none-busy : count.busy ≡ 0
   none-busy = elim (cases_lt 0 count.busy) [
-    | inl some ↦ let rose = is.busy some in absurd (omega (arith, rose, stood, stands_))
-    | inr none ↦ omega (arith, none)
+    | inl some ↦ let rose = is.busy some in absurd (omega (arith, rose, at.lossless, none))
+    | inr few ↦ omega (arith, few)
   ]
 
-  pub merges : MergesAlone (setting_of terms before.store.pages) (length before.log.seen) merged count.merged count.fresh
-      count.busy
-  merges = (by (merged == length before.log.seen) fresh-is, fresh-is, none-busy) where
+  pub merges : MergesAlone (unit_count before.store.pages) (record { placed = length before.log.seen; merged = merged })
+      count.merged count.fresh count.busy
+  merges = record {
+    merged_is = by (merged == length before.log.seen) fresh-is;
+    fresh_is = fresh-is;
+    busy_is = none-busy;
+  } where
     by : (b : Bool) → count.fresh ≡ (if b then unit_count before.store.pages else 0) →
         count.merged ≡ (if b then 0 else unit_count before.store.pages)
     by true fresh = omega (arith, fresh, is.sum, none-busy)
@@ -83,6 +86,7 @@ module _ (terms : Terms) (before now : Told) (merged : ℕ) (count : MergeCount)
   pub catches : now.store.pages ≡ before.store.pages → StandsAt now (length before.log.seen)
   catches pages = record {
     within = omega (arith, long);
+    lossless = none;
     version = told.0;
     told_is = told.1;
     each = λ unit is_unit.

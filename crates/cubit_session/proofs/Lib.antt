@@ -4,6 +4,7 @@ mod Bringing
 mod Catching
 mod Lonely
 mod Owning
+mod Reaching
 mod Replying
 mod Running
 mod Sparing

@@ -8,7 +8,10 @@ use Rattle.commit_log.specs.Growing.{begins-length}
 use Rattle.commit_log.specs.Handle.{Handle, Begins, Grows, mine}
 use Rattle.cubit_session.specs.Run.{Mark}
 use Rattle.cubit_session.specs.Step.{AddsTo}
-use Rattle.cubit_session.specs.Alone.{OwnsAll}
+
+-- all deltas that it has seen are its own
+abbrev pub OwnsAll : Handle → Type 0
+OwnsAll handle = All (λ d. d.author ≡ handle.author) handle.seen
 
 all-from : (n w : ℕ) (log : List Delta) →
     ((k : ℕ) (d : Delta) → k < length log → (slice_index_or log k d).author ≡ w) →

@@ -24,7 +24,7 @@ use Rattle.cubit_session.specs.Through.{HasRun}
 use Rattle.cubit_session.proofs.Adding.{adds-on, adds-none}
 use Rattle.cubit_session.proofs.Answering.{tells-later}
 
-table-later : (s : Setting) (log longer : List Delta) (front : ℕ) → Begins log longer → front ≤ length log →
+pub table-later : (s : Setting) (log longer : List Delta) (front : ℕ) → Begins log longer → front ≤ length log →
     table_at s longer front ≡ table_at s log front
 table-later s log longer front begins within =
     ap (λ (l : List Delta). after s.base l) (take-begins log longer front begins within)
@@ -96,7 +96,7 @@ added-head first lists told =
     ((first ∷ lists) ++ (replicate (0 - length (first ∷ lists)) [] ++ (told ∷ []) ∷ []))
     (lt-ltb 0 (length (first ∷ lists)) (omega arith))
 
-added-first : (lists : List (List Reply)) (told : Reply) →
+pub added-first : (lists : List (List Reply)) (told : Reply) →
     replies_of (added lists 0 told) 0 ≡ replies_of lists 0 ++ told ∷ []
 added-first [] told = refl
 added-first (first ∷ lists) told =

@@ -1,16 +1,20 @@
 //! What follows from the steps of a worker, for the layers above. These functions do nothing: where one is called, its
 //! clauses are known.
-ghost use Rattle.std.specs.Prelude.{◌≡◌, ℕ, ◌+◌, ◌≤◌, List, [], ◌∷◌, ◌++◌, length, Ok};
+ghost use Rattle.std.specs.Prelude.{◌≡◌, ℕ, ◌+◌, ◌≤◌, List, [], ◌∷◌, ◌++◌, Ok};
 ghost use Rattle.cubit_base.specs.Command.{weight_of};
 ghost use Rattle.cubit_base.specs.declared.command.Command.{Command};
 ghost use Rattle.cubit_base.specs.declared.delta.Delta.{Delta};
+ghost use Rattle.wah_words.specs.Place.{page_count};
 ghost use Rattle.commit_log.specs.Log.{Terms};
-ghost use Rattle.commit_log.specs.Handle.{Handle, Begins, Grows};
+ghost use Rattle.commit_log.specs.Handle.{Handle, Begins};
+ghost use Rattle.commit_log.specs.Serial.{SerialValue, serial_handle};
+ghost use Rattle.version_store.specs.Version.{base_version};
+ghost use Rattle.version_store.specs.Memory.{MemoryValue, memory_store, IsNew};
 ghost use Rattle.query_report.specs.declared.reply.Reply.{Reply};
 ghost use Rattle.query_report.specs.ReplyTable.{added};
-ghost use Rattle.cubit_session.specs.Run.{Setting, Mark, Answers, marks_of, places_of};
-ghost use Rattle.cubit_session.specs.Step.{Told, IsStep, AddsTo, setting_of};
-ghost use Rattle.cubit_session.specs.Alone.{OwnsAll};
+ghost use Rattle.cubit_session.specs.Run.{Setting, Answers, marks_of, places_of};
+ghost use Rattle.cubit_session.specs.Step.{Told, IsStep, AddsTo, setting_of, told_by};
+ghost use Rattle.cubit_session.specs.Alone.{OwnsLog, HasRunAlone};
 ghost use Rattle.cubit_session.specs.Through.{HasRun};
 
 /// Steps: each reply answers its command over all deltas that the worker has seen then, and tells its own changes.
@@ -37,10 +41,18 @@ pub fn parts()
         HasRun s handle after (commands ++ command ∷ []) (added replies 0 reply) }
 {}
 
-/// A worker that has its log to itself.
+/// A worker that has its log and its store to itself: at the start, and after one command more.
 pub fn alone()
-    ensures before { (handle later : Handle) → Grows handle later → OwnsAll later → OwnsAll handle }
-    ensures length { (handle later : Handle) (marks : List Mark) (places : List ℕ) →
-        AddsTo handle later marks places → OwnsAll later →
-        length later.seen ≡ length handle.seen + length places }
-{}
+    ensures none { (terms : Terms) (s : Setting) (pages : ℕ) (log : SerialValue) (memory : MemoryValue) →
+        log.seen ≡ [] → IsNew pages (base_version terms) memory →
+        HasRunAlone s (told_by serial_handle memory_store (log, memory)) [] [] }
+    ensures next { (terms : Terms) (pages tries : ℕ) (command : Command) (before after : Told) (reply : Reply)
+        (commands : List Command) (replies : List Reply) → 1 ≤ tries → page_count terms.limits.row_limit ≤ pages →
+        HasRunAlone (setting_of terms pages) before commands replies →
+        IsStep terms tries command before after (Ok reply) → OwnsLog terms after → after.store.losses ≡ 0 →
+        before.store.pages ≡ pages → after.store.pages ≡ pages →
+        HasRunAlone (setting_of terms pages) after (commands ++ command ∷ []) (replies ++ reply ∷ []) }
+{
+    commit_log::laws::prefixes();
+    selection::laws::units();
+}

@@ -5,17 +5,22 @@ ghost use Rattle.wah_words.specs.Place.{page_count};
 ghost use Rattle.cubit_base.specs.declared.delta.Delta.{Delta as DeltaValue};
 ghost use Rattle.cubit_base.specs.declared.command.Command.{Command as CommandValue};
 ghost use Rattle.query_report.specs.declared.reply.Reply.{Reply as ReplyValue};
+ghost use Rattle.query_report.specs.ReplyTable.{replies_of};
 ghost use Rattle.commit_log.specs.Handle.{Handle};
 ghost use Rattle.commit_log.specs.Log.{IsLog, Terms};
-ghost use Rattle.commit_log.specs.Serial.{serial_terms};
+ghost use Rattle.commit_log.specs.Serial.{serial_terms, serial_handle};
 ghost use Rattle.version_store.specs.Store.{IsStanding};
+ghost use Rattle.version_store.specs.Memory.{memory_store, AreVersions, IsNew};
+ghost use Rattle.version_store.specs.Version.{base_version};
 ghost use Rattle.refresh_streams.specs.Script.{DropsSomeOrder, weights};
 ghost use Rattle.cubit_session.specs.Run.{IsRun};
-ghost use Rattle.cubit_session.specs.Step.{setting_of};
+ghost use Rattle.cubit_session.specs.Step.{setting_of, told_by};
+ghost use Rattle.cubit_session.specs.Alone.{IsAlone, HasRunAlone};
 ghost use Rattle.cubit_session.specs.Through.{HasRun, run_setting};
 
 use crate::Worker;
-use crate::laws::{parts, steps as step_laws};
+use crate::laws::{alone, parts, steps as step_laws};
+use crate::worker::owns_log;
 use commit_log::{CommitLog, SerialLog, Setup};
 use cubit_base::{Command, DeltaList, Limits, Memory, Steps};
 use query_report::ReplyTable;
@@ -24,7 +29,7 @@ use std::alloc::Global;
 use std::marker::Brand;
 use std::sync::ledger::{Blank, Ledger};
 use unit_version::Base;
-use version_store::{MemoryStore, VersionStore};
+use version_store::MemoryStore;
 
 /// What a run comes to.
 #[derive(Drop)]
@@ -48,6 +53,8 @@ pub fn run_script(
     requires orders { All DropsSomeOrder script.now }
     requires weights { weights script.now ≤ 4_194_304 }
     ensures run { IfOk result (λ o. IsRun (run_setting base.now limits.now) (script.now ∷ []) o.replies o.journal) }
+    ensures alone { IfOk result (λ o. IsAlone (run_setting base.now limits.now) script.now (replies_of o.replies 0)
+        o.journal) }
 {
     run_over::<Brand, Brand>(alloc, Blank::new(1), base, script, limits)
 }
@@ -71,45 +78,52 @@ fn run_over<S: Setup, N: Ledger>(
     requires orders { All DropsSomeOrder script.now }
     requires weights { weights script.now ≤ 4_194_304 }
     ensures run { IfOk result (λ o. IsRun (run_setting base.now limits.now) (script.now ∷ []) o.replies o.journal) }
+    ensures alone { IfOk result (λ o. IsAlone (run_setting base.now limits.now) script.now (replies_of o.replies 0)
+        o.journal) }
 {
     runs();
     let steps = &mut Steps::<N>::make(blank);
     let mut log = SerialLog::<S>::make(alloc, base.rows(), weight(script), *limits)?;
     let store = MemoryStore::make(alloc, base, &mut log)?;
     let mut worker = Worker::make(log, store);
-    let replies = worker.replies(alloc, base, script, limits.tries)?;
+    let replies = replies_to(&mut worker, alloc, base, script, limits.tries)?;
     let (mut log, _) = worker.into_parts();
     let journal = journal_of(alloc, &mut log, steps)?;
     Ok(Outcome { replies, journal })
 }
 
-impl<S: VersionStore> Worker<S> {
-    // The replies to a script's commands, one after another.
-    fn replies(
-        &mut self,
-        alloc: Global,
-        base: &Base,
-        script: &Script,
-        tries: u32,
-    ) -> Result<ReplyTable, Memory>
-        requires standing { IsStanding S.Log.terms (S.store self.old.1) base.now (S.over self.old.1 self.old.0) }
-        requires tries { 1 ≤ tries }
-        requires orders { All DropsSomeOrder script.now }
-        requires spare { weights script.now ≤ (S.Log.handle self.old.0).spare }
-        ensures run { IfOk result (HasRun (setting_of S.Log.terms (page_count base.now.row_room))
-            (S.Log.handle self.old.0) (S.Log.handle self.new.0) script.now) }
-        ensures standing { IsStanding S.Log.terms (S.store self.new.1) base.now (S.over self.new.1 self.new.0) }
-    {
-        step_laws();
-        parts();
-        let mut replies = ReplyTable::new(alloc);
-        for n in 0..script.len() {
-            let command = script.get(n).unwrap();
-            let reply = self.step(alloc, base, command, tries)?;
-            replies.add(alloc, 0, reply)?;
-        }
-        Ok(replies)
+// The replies to a script's commands, one after another, by a worker that begins.
+fn replies_to<S: Setup>(
+    worker: &mut Worker<MemoryStore<S>>,
+    alloc: Global,
+    base: &Base,
+    script: &Script,
+    tries: u32,
+) -> Result<ReplyTable, Memory>
+    requires standing { IsStanding (serial_terms S.base S.limits) (memory_store worker.old.1) base.now
+        (AreVersions (serial_terms S.base S.limits) worker.old.1 worker.old.0.seen) }
+    requires empty { worker.old.0.seen ≡ [] }
+    requires new { IsNew (page_count base.now.row_room) (base_version (serial_terms S.base S.limits)) worker.old.1 }
+    requires tries { 1 ≤ tries }
+    requires orders { All DropsSomeOrder script.now }
+    requires spare { weights script.now ≤ worker.old.0.spare }
+    ensures run { IfOk result (HasRun (setting_of (serial_terms S.base S.limits) (page_count base.now.row_room))
+        (serial_handle worker.old.0) (serial_handle worker.new.0) script.now) }
+    ensures alone { IfOk result (λ replies. HasRunAlone
+        (setting_of (serial_terms S.base S.limits) (page_count base.now.row_room))
+        (told_by serial_handle memory_store worker.new) script.now (replies_of replies 0)) }
+{
+    step_laws();
+    parts();
+    alone();
+    let mut replies = ReplyTable::new(alloc);
+    for n in 0..script.len() {
+        let command = script.get(n).unwrap();
+        let reply = worker.step(alloc, base, command, tries)?;
+        owns_log(worker);
+        replies.add(alloc, 0, reply)?;
     }
+    Ok(replies)
 }
 
 // How many deltas the script may place at most.

@@ -3,13 +3,16 @@ ghost use Rattle.std.specs.Prelude.{◌≡◌, ◌+◌, ◌≤◌, ◌<◌};
 ghost use Rattle.cubit_base.specs.Command.{weight_of};
 ghost use Rattle.cubit_base.specs.declared.command.Command.TheVariants.{DropOrder};
 ghost use Rattle.refresh_streams.specs.Script.{DropsSomeOrder};
+ghost use Rattle.commit_log.specs.Serial.{serial_terms, serial_handle};
 ghost use Rattle.version_store.specs.Store.{IsStanding};
+ghost use Rattle.version_store.specs.Memory.{memory_store};
 ghost use Rattle.cubit_session.specs.Step.{IsStep, Replies, DropsLine, told_by};
+ghost use Rattle.cubit_session.specs.Alone.{OwnsLog};
 
 use crate::replies::{
     change_reply, count_reply, found_reply, merge_reply, q6_reply, rows_reply, sum_reply,
 };
-use commit_log::CommitLog;
+use commit_log::{CommitLog, Setup};
 use cubit_base::{Command, Key, Memory, Steps};
 use merger::merge_all;
 use query_report::{DropLine, Reply};
@@ -19,7 +22,7 @@ use std::marker::{Brand, Model};
 use std::sync::ledger::{Blank, Ledger};
 use table_ops::{OpStop, delete, insert, lookup, update};
 use unit_version::Base;
-use version_store::VersionStore;
+use version_store::{MemoryStore, VersionStore};
 
 /// A caller of a log and of a store of versions over it, who has a handle of each.
 #[derive(Drop)]
@@ -173,4 +176,12 @@ impl<S: VersionStore> Worker<S> {
             Err(_) => unreachable!(),
         }
     }
+}
+
+// All deltas of a log of one caller are its own.
+pub(crate) fn owns_log<S: Setup>(worker: &Worker<MemoryStore<S>>)
+    ensures { OwnsLog (serial_terms S.base S.limits) (told_by serial_handle memory_store worker.now) }
+{
+    worker.log.author();
+    worker.log.start();
 }
