@@ -1,1 +1,4 @@
+mod Coming
 mod Endings
+mod Missing
+mod Sessions

@@ -1,7 +1,6 @@
 -- The base file: its table, or why it is refused.
 use Rattle.std.specs.Prelude.{◌≡◌, ◌⊎◌, ℕ, List, Result, Ok, Err, nat_lt, length, if◌then◌else◌}
 use Rattle.cubit_base.specs.Table.{Row}
-use Rattle.cubit_base.specs.declared.table.TheConstants.{ROW_LIMIT}
 use Rattle.cubit_io.specs.Count.{Rose}
 use Rattle.cubit_io.specs.Held.{IsMissing, HasWhereTold}
 use Rattle.cubit_io.specs.declared.whole.TheConstants.{FILE_LIMIT}
@@ -12,8 +11,9 @@ use Rattle.tbl_text.specs.Line.{fault_number}
 use Rattle.query_report.specs.declared.refusal.Detail.{Detail}
 use Rattle.query_report.specs.declared.refusal.Detail.TheVariants.{Nothing, Fields, First}
 use Rattle.query_report.specs.declared.refusal.Refusal.{Refusal}
-use Rattle.query_report.specs.declared.stop.Stop.{Stop}
-use Rattle.query_report.specs.declared.stop.Stop.TheVariants.{Usage, FileFault, Refused, SinkFault, Memory}
+use Rattle.cubit_cli.specs.declared.halt.Halt.{Halt}
+use Rattle.cubit_cli.specs.declared.halt.Halt.TheVariants.{Usage, FileFault, Refused, SinkFault, Memory}
+use Rattle.cubit_cli.specs.Halt.{name_of}
 use Rattle.cubit_cli.specs.World.{FilesState}
 
 -- a wrong number of fields is told
@@ -35,18 +35,19 @@ abbrev pub or_refusal : Result (List Row) LinesFault → Result (List Row) Refus
 or_refusal (Ok table) = Ok table
 or_refusal (Err f) = Err (lines_refusal f)
 
--- the table of a file's bytes, or why they are refused: their length first, then their lines
-abbrev pub base_table : List ℕ → Result (List Row) Refusal
-base_table bytes = if nat_lt FILE_LIMIT (length bytes) then Err too_long else or_refusal (base_value ROW_LIMIT bytes)
+-- the table of a file's bytes with so many lines at most, or why they are refused: their length first, then their lines
+abbrev pub base_table : ℕ → List ℕ → Result (List Row) Refusal
+base_table row_limit bytes =
+    if nat_lt FILE_LIMIT (length bytes) then Err too_long else or_refusal (base_value row_limit bytes)
 
 -- how a call ends that reads one file whole and judges its bytes
-abbrev pub Judges : {A : Type 0} → (List ℕ → Result A Refusal) → FilesState → FilesState → List ℕ → Result A Stop
+abbrev pub Judges : {A : Type 0} → (List ℕ → Result A Refusal) → FilesState → FilesState → List ℕ → Result A Halt
     → Type 0
 Judges judge before after name (Ok value) = HasWhereTold before.held name (λ bytes. judge bytes ≡ Ok value)
 Judges judge before after name (Err (FileFault told)) =
-    (told.now ≡ name) × (IsMissing before.held name ⊎ Rose before.faults after.faults)
+    (name_of told ≡ name) × (IsMissing before.held name ⊎ Rose before.faults after.faults)
 Judges judge before after name (Err (Refused told refusal)) =
-    (told.now ≡ name) × HasWhereTold before.held name (λ bytes. judge bytes ≡ Err refusal)
+    (name_of told ≡ name) × HasWhereTold before.held name (λ bytes. judge bytes ≡ Err refusal)
 Judges judge before after name (Err Memory) = Unit {0}
 Judges judge before after name (Err Usage) = ⊥
 Judges judge before after name (Err SinkFault) = ⊥

@@ -1,22 +1,22 @@
 -- How a call of the program ends, and its exit status.
 use Rattle.std.specs.Prelude.{ℕ, Option, Some, None, Result, Ok, Err}
-use Rattle.query_report.specs.declared.stop.Stop.{Stop}
-use Rattle.query_report.specs.declared.stop.Stop.TheVariants as stop
-use Rattle.cubit_cli.specs.Query.{Trouble, Missing, Bad}
+use Rattle.cubit_cli.specs.declared.halt.Halt.{Halt}
+use Rattle.cubit_cli.specs.declared.halt.Halt.TheVariants as halt
+use Rattle.cubit_cli.specs.Trouble.{Trouble, Missing, Bad}
 use Rattle.cubit_cli.specs.declared.status.Status.{Status}
 use Rattle.cubit_cli.specs.declared.status.Status.TheVariants.{Done, Usage, FileFault, SinkFault, Refused, Memory}
 
 -- the whole answer was written, or why not
 abbrev pub Ending : Type 0
-Ending = Result (Unit {0}) Stop
+Ending = Result (Unit {0}) Halt
 
 abbrev pub status_of : Ending → Status
 status_of (Ok done) = Done
-status_of (Err stop.Usage) = Usage
-status_of (Err (stop.FileFault name)) = FileFault
-status_of (Err (stop.Refused name refusal)) = Refused
-status_of (Err stop.SinkFault) = SinkFault
-status_of (Err stop.Memory) = Memory
+status_of (Err halt.Usage) = Usage
+status_of (Err (halt.FileFault name)) = FileFault
+status_of (Err (halt.Refused name refusal)) = Refused
+status_of (Err halt.SinkFault) = SinkFault
+status_of (Err halt.Memory) = Memory
 
 -- the status that the first file in the way, if there is one, asks for
 abbrev pub status_of_trouble : Option Trouble → Status

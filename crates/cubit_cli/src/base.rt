@@ -1,41 +1,52 @@
 //! The base file: read whole, and judged.
-ghost use Rattle.std.specs.Prelude.{◌≡◌, ◌≤◌, IfOk};
+ghost use Rattle.std.specs.Prelude.{◌≡◌, ◌≤◌, length, IfOk};
 ghost use Rattle.cubit_base.specs.Table.{HasDistinctKeys};
+ghost use Rattle.cubit_base.specs.declared.table.TheConstants.{ROW_LIMIT};
 ghost use Rattle.cubit_cli.specs.Base.{line_detail, lines_refusal, too_long, base_table, Judges};
 ghost use Rattle.cubit_cli.specs.World.{files_state};
 ghost use Rattle.tbl_text.specs.Base.{TooMany, Line, Twice};
 
-use cubit_base::{ROW_LIMIT, Table};
+use crate::halt::{Halt, Name};
+use cubit_base::Table;
 use cubit_io::{Files, ReadStop, read_all};
-use query_report::{Detail, Refusal, Stop};
+use query_report::{Detail, Refusal};
 use std::alloc::Global;
 use tbl_text::{BaseFault, LineFault, base_of};
 
-/// The table of the file of this name.
+/// The table of the file of this name, which may have so many lines.
 pub(crate) fn base_table<'a, F: Files>(
     alloc: Global,
     files: &mut F,
     name: &'a str,
-) -> Result<Table, Stop<'a>>
-    ensures judged { Judges base_table (files_state (F.held files.old) (F.faults files.old))
+    row_limit: u32,
+) -> Result<Table, Halt<'a>>
+    requires { row_limit ≤ ROW_LIMIT }
+    ensures judged { Judges (base_table row_limit) (files_state (F.held files.old) (F.faults files.old))
         (files_state (F.held files.new) (F.faults files.new)) name.now result }
+    ensures within { IfOk result (λ table. length table ≤ row_limit) }
     ensures distinct { IfOk result HasDistinctKeys }
     ensures held { F.held files.new ≡ F.held files.old }
     ensures counted { F.faults files.old ≤ F.faults files.new }
 {
     let bytes = match read_all(alloc, files, name) {
         Ok(bytes) => bytes,
-        Err(ReadStop::Fault) => return Err(Stop::FileFault(name)),
-        Err(ReadStop::TooLong) => return Err(Stop::Refused(name, longer_than_the_limit())),
-        Err(ReadStop::Memory) => return Err(Stop::Memory),
+        Err(ReadStop::Fault) => return Err(Halt::FileFault(Name::Word(name))),
+        Err(ReadStop::TooLong) => return Err(refused(name, longer_than_the_limit())),
+        Err(ReadStop::Memory) => return Err(Halt::Memory),
     };
-    match base_of(alloc, &bytes, ROW_LIMIT) {
+    match base_of(alloc, &bytes, row_limit) {
         Ok(table) => Ok(table),
-        Err(BaseFault::TooMany(line)) => Err(Stop::Refused(name, line_too_many(line))),
-        Err(BaseFault::Line(line, fault)) => Err(Stop::Refused(name, bad_line(line, fault))),
-        Err(BaseFault::Twice(line, first)) => Err(Stop::Refused(name, repeated_key(line, first))),
-        Err(BaseFault::Memory) => Err(Stop::Memory),
+        Err(BaseFault::TooMany(line)) => Err(refused(name, line_too_many(line))),
+        Err(BaseFault::Line(line, fault)) => Err(refused(name, bad_line(line, fault))),
+        Err(BaseFault::Twice(line, first)) => Err(refused(name, repeated_key(line, first))),
+        Err(BaseFault::Memory) => Err(Halt::Memory),
     }
+}
+
+fn refused<'a>(name: &'a str, refusal: Refusal) -> Halt<'a>
+    ensures { result ≡ Halt.Refused (Name.Word name) refusal }
+{
+    Halt::Refused(Name::Word(name), refusal)
 }
 
 fn longer_than_the_limit() -> Refusal

@@ -34,14 +34,19 @@
 //! ```
 #![tactic(auto)]
 
+mod asked;
 mod base;
 mod call;
+mod drill;
+mod halt;
 mod index;
 pub mod laws;
-mod query;
+mod script;
+mod session;
 mod status;
 #[cfg(test)]
 mod tests;
+mod text;
 mod words;
 
 pub use call::run;

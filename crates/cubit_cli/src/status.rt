@@ -2,12 +2,12 @@
 ghost use Rattle.std.specs.Prelude.{◌≡◌, Err};
 ghost use Rattle.cubit_cli.specs.Status.{status_of, exit_code};
 
-use query_report::Stop;
+use crate::halt::Halt;
 
 /// How a call of the program ends; the number is its exit status.
 #[derive(Clone, Copy, Debug, PartialEq, Eq)]
 pub enum Status {
-    /// The whole answer was written.
+    /// The whole text was written.
     Done = 0,
     /// The words are no command.
     Usage = 2,
@@ -22,16 +22,16 @@ pub enum Status {
 }
 
 impl Status {
-    /// The status of a call that stopped.
-    pub(crate) fn of(stop: &Stop<'_>) -> Status
-        ensures { result ≡ status_of (Err stop.now) }
+    /// The status of a call that stopped so.
+    pub(crate) fn of(halt: &Halt<'_>) -> Status
+        ensures { result ≡ status_of (Err halt.now) }
     {
-        match stop {
-            Stop::Usage => Status::Usage,
-            Stop::FileFault(_) => Status::FileFault,
-            Stop::Refused(_, _) => Status::Refused,
-            Stop::SinkFault => Status::SinkFault,
-            Stop::Memory => Status::Memory,
+        match halt {
+            Halt::Usage => Status::Usage,
+            Halt::FileFault(_) => Status::FileFault,
+            Halt::Refused(_, _) => Status::Refused,
+            Halt::SinkFault => Status::SinkFault,
+            Halt::Memory => Status::Memory,
         }
     }
 

@@ -4,9 +4,13 @@ use cubit_io::{MemoryFiles, MemorySink};
 use std::alloc::{AllocError, Global};
 use std::process::Abort;
 
+mod drills;
 mod failing_calls;
 mod faults;
 mod rows;
+mod run_words;
+mod script_faults;
+mod scripts;
 mod words;
 
 const A: &[u8] =
@@ -51,7 +55,30 @@ fn words_of(alloc: Global, words: &[&str]) -> Result<Vec<String>, AllocError> {
     Ok(all)
 }
 
-// Calls with these words, where the file A is held.
+// Calls with these words, where these files are held.
+fn check_files(
+    rt: &impl Abort,
+    alloc: Global,
+    held: &[(&str, &[u8])],
+    words: &[&str],
+    failing: Failing<'_>,
+    left: Left<'_>,
+) -> Result<(), AllocError> {
+    let words = words_of(alloc, words)?;
+    let mut files = MemoryFiles::make(alloc, failing.files.to_vec(alloc)?);
+    for (name, bytes) in held {
+        files.keep(alloc, *name, *bytes)?;
+    }
+    let mut out = MemorySink::make(alloc, failing.out.to_vec(alloc)?);
+    let mut err = MemorySink::make(alloc, failing.err.to_vec(alloc)?);
+    let status = run(alloc, &words, &mut files, &mut out, &mut err);
+    assert_eq!(rt; status, left.status, "with {words:?}");
+    assert_eq!(rt; out.bytes(), left.out.as_bytes(), "with {words:?}");
+    assert_eq!(rt; err.bytes(), left.err.as_bytes(), "with {words:?}");
+    Ok(())
+}
+
+// The same, where the file A is held.
 fn check(
     rt: &impl Abort,
     alloc: Global,
@@ -60,16 +87,23 @@ fn check(
     failing: Failing<'_>,
     left: Left<'_>,
 ) -> Result<(), AllocError> {
-    let words = words_of(alloc, words)?;
-    let mut files = MemoryFiles::make(alloc, failing.files.to_vec(alloc)?);
-    files.keep(alloc, "A", base)?;
-    let mut out = MemorySink::make(alloc, failing.out.to_vec(alloc)?);
-    let mut err = MemorySink::make(alloc, failing.err.to_vec(alloc)?);
-    let status = run(alloc, &words, &mut files, &mut out, &mut err);
-    assert_eq!(rt; status, left.status, "with {words:?}");
-    assert_eq!(rt; out.bytes(), left.out.as_bytes(), "with {words:?}");
-    assert_eq!(rt; err.bytes(), left.err.as_bytes(), "with {words:?}");
-    Ok(())
+    check_files(rt, alloc, &[("A", base)], words, failing, left)
+}
+
+// What is written, where these files are held and nothing fails.
+fn writes(
+    rt: &impl Abort,
+    alloc: Global,
+    held: &[(&str, &[u8])],
+    words: &[&str],
+    out: &str,
+) -> Result<(), AllocError> {
+    let left = Left {
+        status: Status::Done,
+        out,
+        err: "",
+    };
+    check_files(rt, alloc, held, words, NONE_FAILS, left)
 }
 
 // The query writes this line.
@@ -80,10 +114,5 @@ fn answers(
     words: &[&str],
     out: &str,
 ) -> Result<(), AllocError> {
-    let left = Left {
-        status: Status::Done,
-        out,
-        err: "",
-    };
-    check(rt, alloc, base, words, NONE_FAILS, left)
+    writes(rt, alloc, &[("A", base)], words, out)
 }

@@ -1,25 +1,50 @@
 //! The words of the command line.
-ghost use Rattle.std.specs.Prelude.{◌≡◌, option_map, map, string_bytes};
-ghost use Rattle.cubit_cli.specs.Words.{query_of, query_value, number_within, is_base};
+ghost use Rattle.std.specs.Prelude.{◌≡◌, ◌≤◌, ◌∷◌, [], option_map, map, string_bytes, IfSome};
+ghost use Rattle.refresh_streams.specs.Term.{number_within};
+ghost use Rattle.cubit_cli.specs.Words.{asked_by, asked_value, command_of, drill_of, drill_value, is_base, is_name, limits_of, no_options, once, query_of, query_value, run_of, run_value, with_option};
 
-use crate::query::Query;
+use crate::asked::{Asked, Drill, Query, Run};
+use cubit_base::Limits;
 use tbl_text::{integer_of, money_of, quantity_of};
 
-/// Reads the words, or none where they are no query.
-pub(crate) fn read(words: &Vec<String>) -> Option<Query<'_>>
-    ensures { query_of (map string_bytes words.now.items) ≡ option_map query_value result }
+/// Reads the words, or none where they are no command.
+pub(crate) fn read(words: &Vec<String>) -> Option<Asked<'_>>
+    ensures { command_of (map string_bytes words.now.items) ≡ option_map asked_value result }
 {
-    let words = words.as_slice();
-    if words.len() != 5 {
+    match words.as_slice() {
+        [] => None,
+        [name, words @ ..] => read_command(name.as_str(), words),
+    }
+}
+
+// The words behind the name of a command.
+fn read_command<'a>(name: &str, words: &'a [String]) -> Option<Asked<'a>>
+    ensures { asked_by name.now (map string_bytes words.now) ≡ option_map asked_value result }
+{
+    if name == "q6" {
+        Some(Asked::Query(read_query(words)?))
+    } else if name == "run" {
+        Some(Asked::Run(read_run(words, NO_OPTIONS)?))
+    } else if name == "drill" {
+        Some(Asked::Drill(read_drill(words)?))
+    } else {
+        None
+    }
+}
+
+fn read_query(words: &[String]) -> Option<Query<'_>>
+    ensures { query_of (map string_bytes words.now) ≡ option_map query_value result }
+{
+    if words.len() != 4 {
         return None;
     }
-    let base = words[1].as_str();
-    if words[0].as_str() != "q6" || !is_base_name(base) {
+    let base = words[0].as_str();
+    if !is_base_name(base) {
         return None;
     }
-    let year = within(integer_of(words[2].as_bytes()), 1992, 1998)?;
-    let disc = within(money_of(words[3].as_bytes()), 0, 10)?;
-    let qty = within(quantity_of(words[4].as_bytes()), 1, 51)?;
+    let year = within(integer_of(words[1].as_bytes()), 1992, 1998)?;
+    let disc = within(money_of(words[2].as_bytes()), 0, 10)?;
+    let qty = within(quantity_of(words[3].as_bytes()), 1, 51)?;
     Some(Query {
         base,
         year: year as u16,
@@ -28,7 +53,118 @@ pub(crate) fn read(words: &Vec<String>) -> Option<Query<'_>>
     })
 }
 
-// A file's name is not empty, and does not look like an option.
+/// The options of a run, where they are given.
+#[derive(Clone, Copy)]
+pub(crate) struct Options {
+    /// The most rows, 0 to 16,777,216.
+    row_limit: Option<u32>,
+    /// The most deltas, 0 to 4,194,304.
+    log_limit: Option<u32>,
+    /// How often something is tried, 1 to 1,000.
+    tries: Option<u32>,
+    ghost rows_in: { IfSome row_limit (λ n. n ≤ 16_777_216) },
+    ghost deltas_in: { IfSome log_limit (λ n. n ≤ 4_194_304) },
+    ghost tries_in: { IfSome tries (λ n. 1 ≤ n) },
+}
+
+const NO_OPTIONS: Options = Options {
+    row_limit: None,
+    log_limit: None,
+    tries: None,
+};
+
+impl Options {
+    // One option more.
+    fn with(self, name: &str, number: Option<u64>) -> Option<Options>
+        ensures { with_option name.now number self ≡ result }
+    {
+        let mut options = self;
+        if name == "--row-limit" {
+            options.row_limit = Some(once(self.row_limit, within(number, 0, 16_777_216))?);
+        } else if name == "--log-limit" {
+            options.log_limit = Some(once(self.log_limit, within(number, 0, 4_194_304))?);
+        } else if name == "--tries" {
+            options.tries = Some(once(self.tries, within(number, 1, 1_000))?);
+        } else {
+            return None;
+        }
+        Some(options)
+    }
+
+    // What is not given has its default.
+    fn limits(&self) -> Limits
+        ensures { result ≡ limits_of self.now }
+    {
+        Limits {
+            row_limit: self.row_limit.unwrap_or(16_777_216),
+            log_limit: self.log_limit.unwrap_or(4_194_304),
+            tries: self.tries.unwrap_or(8),
+        }
+    }
+}
+
+/// What a run that is given no option has for its limits.
+pub(crate) fn default_limits() -> Limits
+    ensures { result ≡ limits_of no_options }
+{
+    NO_OPTIONS.limits()
+}
+
+// A number for an option, which may be given once.
+fn once(before: Option<u32>, number: Option<u64>) -> Option<u32>
+    requires { IfSome number (λ n. n ≤ u32.MAX) }
+    ensures { result ≡ once before number }
+{
+    match (before, number) {
+        (None, Some(n)) => Some(n as u32),
+        _ => None,
+    }
+}
+
+// The options that are left, the base file and the script.
+fn read_run(words: &[String], options: Options) -> Option<Run<'_>>
+    ensures { run_of (map string_bytes words.now) options ≡ option_map run_value result }
+{
+    match words {
+        [base, script] => read_names(base.as_str(), script.as_str(), options),
+        [name, number, words @ ..] => {
+            let options = options.with(name.as_str(), integer_of(number.as_bytes()))?;
+            read_run(words, options)
+        }
+        _ => None,
+    }
+}
+
+fn read_names<'a>(base: &'a str, script: &'a str, options: Options) -> Option<Run<'a>>
+    ensures { run_of (base.now ∷ script.now ∷ []) options ≡ option_map run_value result }
+{
+    if !is_base_name(base) || script.is_empty() {
+        return None;
+    }
+    Some(Run {
+        limits: options.limits(),
+        base,
+        script,
+    })
+}
+
+fn read_drill(words: &[String]) -> Option<Drill>
+    ensures { drill_of (map string_bytes words.now) ≡ option_map drill_value result }
+{
+    match words {
+        [seed, orders] => {
+            let seed = within(integer_of(seed.as_bytes()), 0, 4_294_967_295)?;
+            let orders = within(integer_of(orders.as_bytes()), 1, 100_000)?;
+            Some(Drill {
+                seed: seed as u32,
+                orders: orders as u32,
+            })
+        }
+        _ => None,
+    }
+}
+
+// A base file's name is not empty, and does not look like an option.
 fn is_base_name(word: &str) -> bool
     ensures { result ≡ is_base word.now }
 {
@@ -40,7 +176,8 @@ fn is_base_name(word: &str) -> bool
 }
 
 fn within(number: Option<u64>, low: u64, high: u64) -> Option<u64>
-    ensures { result ≡ number_within low high number }
+    ensures value { result ≡ number_within low high number }
+    ensures range { IfSome result (λ n. (low ≤ n) × (n ≤ high)) }
 {
     match number {
         Some(n) if low <= n && n <= high => Some(n),

@@ -35,7 +35,7 @@
 //! ```
 //! let bytes = read_all(alloc, &mut files, "orders.tbl")?;
 //! write_all(&mut sink, &bytes)?;
-//! tell(&mut sink, &["copied ", "orders.tbl", "\n"]);
+//! tell(&mut sink, &[b"copied ", b"orders.tbl", b"\n"]);
 //! ```
 #![tactic(auto)]
 

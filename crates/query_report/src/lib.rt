@@ -1,6 +1,6 @@
 //! The texts of the program: replies and the journal of a run, which together are its report and are read again from
-//! it, the line of an answer, and what standard error is told. Each is fixed byte for byte: docs/FORMATS.md. `ReplyTable`
-//! keeps the replies of all workers.
+//! it, the line of an answer, the lines of a drill, and what standard error is told. Each is fixed byte for byte:
+//! docs/FORMATS.md. `ReplyTable` keeps the replies of all workers.
 //!
 //! # Proved
 //!
@@ -13,8 +13,9 @@
 //!   worker's list, and lists that were missing before it are empty (`ok`), or nothing changed (`err`). `get`, `len`,
 //!   `workers`: what that list has.
 //! - `decimal4`, `answer_line`: a sum with four digits behind its point; the line of a count and a sum (`answer_text`).
-//! - `Stop::tell`: a sink takes the one line of why a call stopped (`stop_text`), in order and as far as it goes, and
-//!   all of it unless it fails (clause `text`). It takes no memory, so it can say that memory ran out.
+//! - `drill_text`: the two lines of what a drill came to (`drill_text`).
+//! - `Stop::tell`: a sink takes the text of why a call stopped (`stop_text`), in order and as far as it goes, and all
+//!   of it unless it fails (clause `text`). It takes no memory, so it can say that memory ran out.
 //!
 //! # Only tested
 //!
@@ -37,6 +38,7 @@
 
 mod answer;
 mod decimal;
+mod drill;
 mod journal;
 mod piece;
 mod reader;
@@ -48,6 +50,7 @@ mod stop;
 
 pub use answer::answer_line;
 pub use decimal::decimal4;
+pub use drill::{Drill, drill_text};
 pub use journal::journal_text;
 pub use refusal::{Detail, Refusal};
 pub use reply::{DropLine, Reply, reply_text};

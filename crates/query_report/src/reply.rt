@@ -163,8 +163,9 @@ fn put_reply(text: &mut Vec<u8>, reply: &Reply) -> Result<(), Memory>
     }
 }
 
+/// Two labels with their numbers.
 #[tactic(auto, unfolding(crate::specs::Field::two_fields))]
-fn put_two(
+pub(crate) fn put_two(
     text: &mut Vec<u8>,
     label: &[u8],
     number: u32,

@@ -2,7 +2,7 @@
 ghost use Rattle.std.specs.Prelude.{◌≡◌, ◌≤◌, ◌∷◌, [], codes};
 ghost use Rattle.std.specs.List.{concat};
 ghost use Rattle.cubit_io.specs.Pieces.{Tells};
-ghost use Rattle.query_report.specs.Stop.{refused_text, stop_text};
+ghost use Rattle.query_report.specs.Stop.{refused_text, stop_text, usage_text};
 
 use crate::Refusal;
 use cubit_io::{Sink, tell};
@@ -14,9 +14,9 @@ pub enum Stop<'a> {
     /// The words are no command.
     Usage,
     /// The file is missing, or cannot be read.
-    FileFault(&'a str),
+    FileFault(&'a [u8]),
     /// The file has this fault.
-    Refused(&'a str, Refusal),
+    Refused(&'a [u8], Refusal),
     /// The output cannot be written.
     SinkFault,
     /// Memory ran out.
@@ -31,16 +31,28 @@ impl Stop<'_> {
         ensures counted { E.faults err.old ≤ E.faults err.new }
     {
         match self {
-            Stop::Usage => tell(err, &["usage: cubit q6 BASE YEAR DISCOUNT QUANTITY\n"]),
-            Stop::FileFault(name) => tell(err, &["cubit: ", *name, ": cannot be read\n"]),
+            Stop::Usage => tell_usage(err),
+            Stop::FileFault(name) => tell(err, &[b"cubit: ", *name, b": cannot be read\n"]),
             Stop::Refused(name, refusal) => tell_refusal(err, *name, refusal),
-            Stop::SinkFault => tell(err, &["cubit: output failed\n"]),
-            Stop::Memory => tell(err, &["cubit: out of memory\n"]),
+            Stop::SinkFault => tell(err, &[b"cubit: output failed\n"]),
+            Stop::Memory => tell(err, &[b"cubit: out of memory\n"]),
         }
     }
 }
 
-fn tell_refusal<E: Sink>(err: &mut E, name: &str, refusal: &Refusal)
+fn tell_usage<E: Sink>(err: &mut E)
+    ensures text { Tells (E.taken err.old) (E.taken err.new) (E.faults err.old) (E.faults err.new) usage_text }
+    ensures counted { E.faults err.old ≤ E.faults err.new }
+{
+    let lines = [
+        b"usage: cubit q6 BASE YEAR DISCOUNT QUANTITY\n".as_slice(),
+        b"       cubit run [--row-limit N] [--log-limit N] [--tries N] BASE SCRIPT..\n",
+        b"       cubit drill SEED ORDERS\n",
+    ];
+    tell(err, &lines);
+}
+
+fn tell_refusal<E: Sink>(err: &mut E, name: &[u8], refusal: &Refusal)
     ensures text { Tells (E.taken err.old) (E.taken err.new) (E.faults err.old) (E.faults err.new)
         (refused_text name.now refusal.now) }
     ensures counted { E.faults err.old ≤ E.faults err.new }
@@ -61,7 +73,7 @@ fn tell_refusal<E: Sink>(err: &mut E, name: &str, refusal: &Refusal)
 // One lifetime for all, since the pieces lie in one array.
 fn tell_fault<'a, E: Sink>(
     err: &mut E,
-    name: &'a str,
+    name: &'a [u8],
     line: &'a str,
     fault: &'a str,
     label: &'a str,
@@ -73,7 +85,15 @@ fn tell_fault<'a, E: Sink>(
     ensures counted { E.faults err.old ≤ E.faults err.new }
 {
     let pieces = [
-        "cubit: ", name, ": line ", line, ": fault ", fault, label, number, "\n",
+        b"cubit: ".as_slice(),
+        name,
+        b": line ",
+        line.as_bytes(),
+        b": fault ",
+        fault.as_bytes(),
+        label.as_bytes(),
+        number.as_bytes(),
+        b"\n",
     ];
     tell(err, &pieces);
 }
@@ -97,18 +117,25 @@ mod tests {
     fn texts(rt: HostRuntime) -> Result<(), Fail> {
         let alloc = rt.alloc();
         for (stop, text) in [
-            (Stop::Usage, "usage: cubit q6 BASE YEAR DISCOUNT QUANTITY\n"),
-            (Stop::FileFault("A"), "cubit: A: cannot be read\n"),
             (
-                Stop::Refused("A", refusal(0, 16, Detail::Nothing)),
+                Stop::Usage,
+                concat!(
+                    "usage: cubit q6 BASE YEAR DISCOUNT QUANTITY\n",
+                    "       cubit run [--row-limit N] [--log-limit N] [--tries N] BASE SCRIPT..\n",
+                    "       cubit drill SEED ORDERS\n",
+                ),
+            ),
+            (Stop::FileFault(b"A"), "cubit: A: cannot be read\n"),
+            (
+                Stop::Refused(b"A", refusal(0, 16, Detail::Nothing)),
                 "cubit: A: line 0: fault 16\n",
             ),
             (
-                Stop::Refused("A", refusal(4, 1, Detail::Fields(17))),
+                Stop::Refused(b"A", refusal(4, 1, Detail::Fields(17))),
                 "cubit: A: line 4: fault 1 fields=17\n",
             ),
             (
-                Stop::Refused("A", refusal(9, 12, Detail::First(1))),
+                Stop::Refused(b"A", refusal(9, 12, Detail::First(1))),
                 "cubit: A: line 9: fault 12 first=1\n",
             ),
             (Stop::SinkFault, "cubit: output failed\n"),

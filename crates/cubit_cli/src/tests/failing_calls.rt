@@ -1,7 +1,7 @@
 //! Calls over files and sinks that fail.
 ghost use Rattle.std.specs.Prelude.{Some, None, []};
 
-use super::{A, Failing, Left, NONE_FAILS, ROW_1, WORDS, check, words_of};
+use super::{A, Failing, Left, NONE_FAILS, ROW_1, WORDS, check, check_files, words_of};
 use crate::{Status, run};
 use cubit_io::{Failed, Files, MemorySink};
 use std::test::Fail;
@@ -122,6 +122,36 @@ fn standard_error(rt: HostRuntime) -> Result<(), Fail> {
                 ..UNREAD
             },
         )?;
+    }
+    Ok(())
+}
+
+// The base takes three calls of the files, the script three more, and the report one call of the output.
+#[test]
+fn of_a_run(rt: HostRuntime) -> Result<(), Fail> {
+    let no_script = Left {
+        err: "cubit: S: cannot be read\n",
+        ..UNREAD
+    };
+    let lost = Left {
+        status: Status::SinkFault,
+        out: "",
+        err: "cubit: output failed\n",
+    };
+    for (files, out, left) in [
+        ([3], [2], UNREAD),
+        ([4], [2], no_script),
+        ([5], [2], no_script),
+        ([6], [2], no_script),
+        ([7], [1], lost),
+    ] {
+        let failing = Failing {
+            files: &files,
+            out: &out,
+            err: &[],
+        };
+        let held: [(&str, &[u8]); 2] = [("A", A), ("S", b"count qty=17\n")];
+        check_files(&rt, rt.alloc(), &held, &["run", "A", "S"], failing, left)?;
     }
     Ok(())
 }

@@ -1,12 +1,16 @@
-//! Which words are a query.
+//! Which words are a query, and no command at all.
 use super::{A, Left, NONE_FAILS, ROW_1, answers, check};
 use crate::Status;
 use std::test::Fail;
 
-const USAGE: Left<'static> = Left {
+pub(super) const USAGE: Left<'static> = Left {
     status: Status::Usage,
     out: "",
-    err: "usage: cubit q6 BASE YEAR DISCOUNT QUANTITY\n",
+    err: concat!(
+        "usage: cubit q6 BASE YEAR DISCOUNT QUANTITY\n",
+        "       cubit run [--row-limit N] [--log-limit N] [--tries N] BASE SCRIPT..\n",
+        "       cubit drill SEED ORDERS\n",
+    ),
 };
 
 #[test]

@@ -10,10 +10,9 @@ returns-in-Err-clause-text g c =
     let pieces = c.args.pieces.now in
     let none : Bor (List ℕ) = record { ref_ptr = (0, 0); now = [] } in
     let cut = flat_map-at (λ (piece : Bor (List ℕ)). piece.now) pieces i none c.loop-piece-test.true in
-    let next = rw c.as_bytes.ensures.value at c.in-Err.ensures.part in
     let unsaid = flat_map (λ piece. piece.now) (drop (i + 1) pieces) in
     record {
-      part = rw cut (GrewByPrefix-then _ _ _ _ _ unsaid c.loop-piece.invariant.0 next);
+      part = rw cut (GrewByPrefix-then _ _ _ _ _ unsaid c.loop-piece.invariant.0 c.in-Err.ensures.part);
       whole = inl (Rose-later _ _ _ c.loop-piece.invariant.1 c.in-Err.ensures.cause);
     }
 

@@ -1,0 +1,83 @@
+//! The commands of a script, run over a base table.
+ghost use Rattle.std.specs.Prelude.{◌≡◌, ◌≤◌, All, length, count_by, IfOk};
+ghost use Rattle.cubit_base.specs.Table.{HasDistinctKeys};
+ghost use Rattle.cubit_base.specs.declared.table.TheConstants.{ROW_LIMIT};
+ghost use Rattle.refresh_streams.specs.Script.{DropsSomeOrder, weights};
+ghost use Rattle.cubit_cli.specs.Reply.{IsReported, IsSession, is_insert, row_room};
+
+use cubit_base::{Command, Limits, Table, laws};
+use cubit_session::{Outcome, run_script};
+use query_report::{Memory, report_text};
+use refresh_streams::Script;
+use std::alloc::Global;
+use unit_version::Base;
+
+/// The report of the commands of a script over a base table.
+pub(crate) fn reported(
+    alloc: Global,
+    table: Table,
+    script: &Script,
+    limits: &Limits,
+) -> Result<Vec<u8>, Memory>
+    requires keys { HasDistinctKeys table }
+    requires rows { (length table ≤ limits.now.row_limit) × (limits.now.row_limit ≤ ROW_LIMIT) }
+    requires deltas { limits.now.log_limit ≤ 4_194_304 }
+    requires tries { 1 ≤ limits.now.tries }
+    requires orders { All DropsSomeOrder script.now }
+    requires weights { weights script.now ≤ 4_194_304 }
+    ensures { IfOk result (λ text. IsReported limits.now table script.now text.items) }
+{
+    let outcome = session(alloc, table, script, limits)?;
+    report_text(alloc, &outcome.replies, &outcome.journal)
+}
+
+/// The replies to the commands, and the journal.
+pub(crate) fn session(
+    alloc: Global,
+    table: Table,
+    script: &Script,
+    limits: &Limits,
+) -> Result<Outcome, Memory>
+    requires keys { HasDistinctKeys table }
+    requires rows { (length table ≤ limits.now.row_limit) × (limits.now.row_limit ≤ ROW_LIMIT) }
+    requires deltas { limits.now.log_limit ≤ 4_194_304 }
+    requires tries { 1 ≤ limits.now.tries }
+    requires orders { All DropsSomeOrder script.now }
+    requires weights { weights script.now ≤ 4_194_304 }
+    ensures { IfOk result (λ o. IsSession limits.now table script.now o.replies o.journal) }
+{
+    laws::live_rows();
+    let row_limit = row_room(limits.row_limit, &table, script);
+    let base = Base::build(alloc, table, row_limit)?;
+    let limits = Limits {
+        row_limit,
+        log_limit: limits.log_limit,
+        tries: limits.tries,
+    };
+    run_script(alloc, &base, script, &limits)
+}
+
+// The most rows that there may ever be. The index makes room for no more.
+fn row_room(row_limit: u32, table: &Table, script: &Script) -> u32
+    ensures { result ≡ row_room row_limit table.now script.now }
+{
+    let most = u64::from(table.len()) + u64::from(insert_count(script));
+    if most < u64::from(row_limit) {
+        most as u32
+    } else {
+        row_limit
+    }
+}
+
+// How many of the commands are inserts.
+fn insert_count(script: &Script) -> u32
+    ensures { result ≡ count_by is_insert script.now }
+{
+    let mut count = 0;
+    for n in 0..script.len() {
+        if let Command::Insert(_, _) = script.get(n).unwrap() {
+            count += 1;
+        }
+    }
+    count
+}
