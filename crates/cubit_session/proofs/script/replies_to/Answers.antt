@@ -1,4 +1,4 @@
-use Rattle.std.proofs.Common.{[], ◌∙◌, refl, sym, ap, subst, arith}
+use Rattle.std.proofs.Common.{[], ◌∷◌, ◌++◌, ◌∙◌, take, refl, sym, ap, subst, arith}
 use Rattle.std.specs.Option.{option_copied}
 use Rattle.commit_log.specs.Serial.{serial_terms, serial_handle}
 use Rattle.version_store.specs.Memory.{memory_store}
@@ -74,8 +74,9 @@ loop-n-preserved g c =
       run = subst (λ l. HasRun s (serial_handle c.args.worker.now.0) now.log l c.add.new.self) taken
           (subst (HasRun s (serial_handle c.args.worker.now.0) now.log _) added next);
       alone = subst (λ l. HasRunAlone s now l (replies_of c.add.new.self 0)) taken
-          (subst (λ l. HasRunAlone s now _ (replies_of l 0)) added
-          (subst (HasRunAlone s now _) (sym (added-first c.loop-n.replies reply)) alone));
+          (subst (λ l. HasRunAlone s now (take c.loop-n.n c.args.script.now ++ command ∷ []) (replies_of l 0)) added
+          (subst (HasRunAlone s now (take c.loop-n.n c.args.script.now ++ command ∷ []))
+          (sym (added-first c.loop-n.replies reply)) alone));
       spare = omega (arith, spare, left, c.loop-n.invariant.spare);
       standing = c.in_ok-reply.ensures.standing;
     }
