@@ -6,6 +6,8 @@ use cubit_io::MemoryFiles;
 use std::process::Abort;
 use std::test::Fail;
 
+mod memory;
+
 const ROOM: u32 = 4_194_304;
 
 // Files in memory by name.
@@ -164,10 +166,12 @@ fn good_lines(rt: HostRuntime) -> Result<(), Fail> {
             asks_for(&rt, text.as_str(), &command)?;
         }
     }
+    let read = script(alloc, &[("S", b"#\xff\r\n\r\nmerge\r\n#")], ROOM)?;
+    assert_eq!(rt; read.len(), 1);
     Ok(())
 }
 
-const BAD_LINES: [(&str, u8); 53] = [
+const BAD_LINES: [(&str, u8); 57] = [
     ("insert 0 9 51 1 1 1 X X 1 ", 14),
     ("insert 0 9 51 1000000.00 1 1 X X 1", 2),
     ("insert 1 9 51 1000000.00 1 1 X X 1", 3),
@@ -182,6 +186,7 @@ const BAD_LINES: [(&str, u8); 53] = [
     ("update 1 0 5 10.00 0.01 0.00 R F 1995-01-01", 3),
     ("update 1 1 5 10.00 0.01 0.00 R F", 14),
     ("insert 1 1 5 10.00 0.01 0.00 R F 1995-01-01 ", 14),
+    ("insert 1 1 5 10.00 0.01 0.00 R F", 14),
     ("insert", 14),
     ("delete  1", 2),
     ("delete 1", 14),
@@ -199,12 +204,14 @@ const BAD_LINES: [(&str, u8); 53] = [
     ("Merge", 14),
     (" ", 14),
     (" merge", 14),
+    (" #", 14),
     ("merge\t", 14),
     ("\r", 14),
     ("q6 1996 0.05", 14),
     ("q6 1996 0.05 52", 14),
     ("q6 1996 0.11 24", 14),
     ("q6 1999 0.05 24", 14),
+    ("q6 01996 0.5 024.0", 14),
     ("q6", 14),
     ("rows qty=0", 18),
     ("rows qty=51", 18),
@@ -220,6 +227,7 @@ const BAD_LINES: [(&str, u8); 53] = [
     ("sum qty", 18),
     ("rows a=1 b=2 c=3 d=4 e=5 f=6", 14),
     ("insert-file", 14),
+    ("insert-file ", 14),
     ("delete-file ", 14),
 ];
 

@@ -88,3 +88,24 @@ fn an_insert_makes_another_order(rt: HostRuntime) -> Result<(), Fail> {
     assert_eq!(rt; script.get(0).copied(), Some(Command::Insert(key, tuple)));
     Ok(())
 }
+
+// Where memory runs out, the next call makes the same.
+#[test]
+fn what_is_made_is_right_or_memory_ran_out(rt: HostRuntime) -> Result<(), Fail> {
+    let alloc = rt.alloc();
+    let (table, script) = match make(alloc, 7, 2000) {
+        Ok(made) => made,
+        Err(_) => make(alloc, 7, 2000)?,
+    };
+    assert_eq!(rt; (table.len(), script.len()), (8076, 2003));
+    let key = Key {
+        order: 2001,
+        line: 1,
+    };
+    match script.get(0) {
+        Some(Command::Insert(inserted, _)) => assert_eq!(rt; *inserted, key),
+        _ => assert!(rt; false, "no insert"),
+    }
+    assert_eq!(rt; script.get(2002).copied(), Some(Command::Sum(everything())));
+    Ok(())
+}
