@@ -2,17 +2,17 @@
 //!
 //! # Proved
 //!
-//! - `Worker::step` (`IsStep`): each command is answered by the calls of the layers below, and the reply tells what they
-//!   came to: a change or a drop of an order, line by line, a look-up, a query, or a merge of all units. Queries and
-//!   merges alone can run out of memory; they append nothing then. The worker stays what it has to be to its log and the
-//!   base (`standing`).
+//! - `Worker::step` (`IsStep`): each command is answered by the calls of the layers below, and the reply tells what
+//!   they came to: a change or a drop of an order, line by line, a look-up, a query, or a merge of all units. Queries
+//!   and merges alone can run out of memory; they append nothing then. The worker stays what it has to be to its log
+//!   and the base (`standing`).
 //! - `laws::steps`: each reply answers its command over all deltas that the worker has seen then (`answers`). Nothing
-//!   that it knew is forgotten, its marks do not fall, and its own deltas are more by exactly those that the reply tells
-//!   (`adds`). A command places no more deltas than it weighs (`spare`).
+//!   that it knew is forgotten, its marks do not fall, and its own deltas are more by exactly those that the reply
+//!   tells (`adds`). A command places no more deltas than it weighs (`spare`).
 //! - `run_script`: one script's replies and journal are a run (`IsRun`). The journal is a history over the base within
 //!   the limits. Each command has its reply, in order. A change is answered by what it comes to behind some of the
-//!   journal's deltas, and where that is a delta, it stands there; a query and a look-up by the plain table behind some
-//!   of them. The worker's changes are the journal's entries, each once and in order, and there are no others.
+//!   journal's deltas, and where that is a delta, it stands there; a query and a look-up by the plain table behind
+//!   some of them. The worker's changes are the journal's entries, each once and in order, and there are no others.
 //!
 //! # Only tested
 //!
