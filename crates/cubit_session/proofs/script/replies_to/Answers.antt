@@ -1,5 +1,6 @@
 use Rattle.std.proofs.Common.{[], ◌∷◌, ◌++◌, ◌∙◌, take, refl, sym, ap, subst, arith}
 use Rattle.std.specs.Option.{option_copied}
+use Rattle.std.proofs.lemmas.List.{take_all}
 use Rattle.commit_log.specs.Serial.{serial_terms, serial_handle}
 use Rattle.version_store.specs.Memory.{memory_store}
 use Rattle.wah_words.specs.Place.{page_count}
@@ -79,4 +80,17 @@ loop-n-preserved g c =
           (sym (added-first c.loop-n.replies reply)) alone));
       spare = omega (arith, spare, left, c.loop-n.invariant.spare);
       standing = c.in_ok-reply.ensures.standing;
+    }
+
+pub returns : goal.returns
+returns g c =
+    let s = setting_of (serial_terms g.S.Setup.base g.S.Setup.limits) (page_count c.args.base.now.row_room) in
+    let script = c.args.script.now in
+    let now = c.loop-n.worker in
+    let all = take_all c.loop-n.n script (omega (arith, c.loop-n-test.false, c.len-n-end.ensures)) in
+    record {
+      run = subst (λ l. HasRun s (serial_handle c.args.worker.now.0) (serial_handle now.0) l c.loop-n.replies) all
+          c.loop-n.invariant.run;
+      alone = subst (λ l. HasRunAlone s (told_by serial_handle memory_store now) l (replies_of c.loop-n.replies 0)) all
+          c.loop-n.invariant.alone;
     }
