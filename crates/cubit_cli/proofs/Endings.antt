@@ -1,5 +1,5 @@
 -- What an ending says of the status.
-use Rattle.std.proofs.Common.{◌≡◌, ◌⊎◌, ◌↔◌, ◌∙◌, ℕ, List, Option, Some, None, Result, Ok, Err, refl, sym, ap, subst, inl, inr}
+use Rattle.std.proofs.Common.{◌≡◌, ◌⊎◌, ◌↔◌, ◌∙◌, ℕ, List, Option, Some, None, Ok, Err, refl, sym, ap, subst, inl, inr}
 use Rattle.std.specs.Result.{result_err}
 use Rattle.cubit_base.specs.declared.table.TheConstants.{ROW_LIMIT}
 use Rattle.cubit_io.specs.Count.{Rose}
@@ -7,12 +7,12 @@ use Rattle.cubit_io.specs.Held.{Held, IsMissing}
 use Rattle.cubit_io.specs.Pieces.{GrewBy}
 use Rattle.refresh_streams.specs.Reading.{Contents}
 use Rattle.cubit_cli.specs.declared.halt.Halt.TheVariants as halt
-use Rattle.cubit_cli.specs.declared.status.Status.TheVariants.{Done, Usage, FileFault, SinkFault, Refused, Memory}
+use Rattle.cubit_cli.specs.declared.status.Status.TheVariants.{Done, Usage, FileFault, SinkFault, Memory}
 use Rattle.cubit_cli.specs.Call.{Replies, Ends}
 use Rattle.cubit_cli.specs.Halt.{name_of}
 use Rattle.cubit_cli.specs.Reply.{IsReply}
 use Rattle.cubit_cli.specs.Status.{Ending, status_of, status_of_trouble}
-use Rattle.cubit_cli.specs.Trouble.{Trouble, Missing, Bad, or_missing, or_trouble, first_trouble, table_at, script_at, trouble_of, Reads}
+use Rattle.cubit_cli.specs.Trouble.{Trouble, Missing, or_missing, or_trouble, first_trouble, script_at, trouble_of, Reads}
 use Rattle.cubit_cli.specs.Words.{Asked, Query, Run, Drill, DrillValue}
 use Rattle.cubit_cli.specs.World.{FilesState, SinkState}
 use Rattle.cubit_cli.proofs.Missing.{Meets-missing}

@@ -1,4 +1,4 @@
-mod Coming
 mod Endings
 mod Missing
+mod Options
 mod Sessions

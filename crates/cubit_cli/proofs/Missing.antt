@@ -1,5 +1,5 @@
 -- A file that reading meets and that is missing is what is in the way.
-use Rattle.std.proofs.Common.{◌≡◌, ◌∙◌, ℕ, ◌+◌, nat_lt, Bool, true, false, if◌then◌else◌, List, [], ◌∷◌, ◌++◌, length, Option, Some, None, Result, Ok, Err, refl, sym, ap, subst}
+use Rattle.std.proofs.Common.{◌≡◌, ◌∙◌, ℕ, ◌+◌, nat_lt, Bool, true, false, if◌then◌else◌, List, [], ◌∷◌, ◌++◌, length, Option, Some, None, Result, Ok, Err, ap, subst}
 use Rattle.cubit_base.specs.Key.{KeyValue}
 use Rattle.cubit_base.specs.Tuple.{TupleValue}
 use Rattle.cubit_io.specs.declared.whole.TheConstants.{FILE_LIMIT}
@@ -21,9 +21,10 @@ Halts contents (Stops trouble ∷ steps) = Halts contents steps
 module _ (contents : Contents) where
   Halts-append : (xs ys : List Step) → Halts contents xs → Halts contents ys → Halts contents (xs ++ ys)
   Halts-append [] ys first next = next
-  Halts-append (Opens file ∷ xs) ys first next =
-      (λ none. let found = first.0 none in (found.0 ++ ys, ap (λ l. l ++ ys) found.1),
-      Halts-append xs ys first.1 next)
+  Halts-append (Opens file ∷ xs) ys first next = (
+    (λ none. let found = first.0 none in (found.0 ++ ys, ap (λ l. l ++ ys) found.1)),
+    Halts-append xs ys first.1 next,
+  )
   Halts-append (Asks file n command ∷ xs) ys first next = Halts-append xs ys first next
   Halts-append (Stops trouble ∷ xs) ys first next = Halts-append xs ys first next
 
@@ -50,7 +51,7 @@ module _ (contents : Contents) where
       → ((n : ℕ) (line : List ℕ) → Halts contents (says n line))
       → Halts contents (steps_of_file contents name says)
   Halts-file name says each =
-      (λ none. ([], ap (steps_of_bytes name says) none), Halts-bytes name says each (contents name))
+      ((λ none. ([], ap (steps_of_bytes name says) none)), Halts-bytes name says each (contents name))
 
   Halts-row : (name : List ℕ) (n : ℕ) (row : Result (KeyValue × TupleValue) LineFault)
       → Halts contents (row_step name n row ∷ [])
@@ -87,11 +88,11 @@ after_steps-append : (made rest : List Step) (p now : Progress) → after_steps 
     → after_steps (made ++ rest) p ≡ after_steps rest now
 after_steps-append [] rest p now reached = ap (λ r. r >>= after_steps rest) reached
 after_steps-append (step ∷ made) rest p now reached =
-    elim (after_step step p) as (λ (r : Result Progress Trouble). (r >>= after_steps made ≡ Ok now)
+    (elim (after_step step p) as (λ (r : Result Progress Trouble). ((r >>= after_steps made) ≡ Ok now)
     → (r >>= after_steps (made ++ rest)) ≡ after_steps rest now) [
       | Ok next ↦ λ is. after_steps-append made rest next now is
       | Err trouble ↦ λ is. cc
-    ] reached
+    ]) reached
 
 pub Meets-missing : (contents : Contents) (script : List ℕ) (room : ℕ) (file : List ℕ) → contents file ≡ None
     → Meets (script_steps contents script) (start room) file

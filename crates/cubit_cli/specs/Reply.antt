@@ -1,5 +1,5 @@
 -- What a command may write.
-use Rattle.std.specs.Prelude.{◌≡◌, ℕ, ◌+◌, ◌-◌, min, Bool, true, false, List, [], ◌∷◌, length, count_by, slice_get, Some, Ok}
+use Rattle.std.specs.Prelude.{◌≡◌, ℕ, ◌+◌, ◌-◌, min, List, [], ◌∷◌, length, sum_by, slice_get, Some, Ok}
 use Rattle.cubit_base.specs.Answer.{answer}
 use Rattle.cubit_base.specs.Predicate.{q6_predicate}
 use Rattle.cubit_base.specs.Table.{Row}
@@ -30,13 +30,14 @@ pub record IsAnswered (q : QueryValue) (contents : Contents) (text : List ℕ) :
       let found = answer table (q6_predicate q.year q.disc q.qty) in
       text ≡ answer_text found.count found.sum
 
-abbrev pub is_insert : Command → Bool
-is_insert (Insert key tuple) = true
-is_insert command = false
+-- how many rows a command may add: an insert alone may add one
+abbrev pub rows_added : Command → ℕ
+rows_added (Insert key tuple) = 1
+rows_added command = 0
 
--- the most rows that there may ever be: a row for each of the base table and for each insert, up to the row limit
+-- the most rows that there may ever be: those of the base table and those that are added, up to the row limit
 abbrev pub row_room : ℕ → List Row → List Command → ℕ
-row_room row_limit table commands = min row_limit (length table + count_by is_insert commands)
+row_room row_limit table commands = min row_limit (length table + sum_by rows_added commands)
 
 -- what the commands run over
 abbrev pub setting : Limits → List Row → List Command → Setting
@@ -64,20 +65,22 @@ pub record IsRunText (r : RunValue) (contents : Contents) (text : List ℕ) : Ty
   pub script : script_at contents r.script ≡ Ok commands
   pub reported : IsReported r.limits table commands text
 
--- the last command is replied to by this sum
-pub record EndsInSum (commands : List Command) (replies : List (List Reply)) : Type 0 where
+-- the last reply is this sum
+pub record EndsInSum (replies : List (List Reply)) : Type 0 where
   pub front : ℕ
   pub count : ℕ
   pub sum : ℕ
   pub patched : ℕ
-  pub last : slice_get (replies_of replies 0) (length commands - 1) ≡ Some (Sum front count sum patched)
+  pub last :
+      let told = replies_of replies 0 in
+      slice_get told (length told - 1) ≡ Some (Sum front count sum patched)
 
 -- the lines of a session that ends in a sum
 pub record IsDrilled (d : DrillValue) (table : List Row) (commands : List Command) (text : List ℕ) : Type 0 where
   pub replies : List (List Reply)
   pub journal : List Delta
   pub session : IsSession default_limits table commands replies journal
-  pub ends : EndsInSum commands replies
+  pub ends : EndsInSum replies
   pub text_is : text ≡ drill_text (record {
     seed = d.seed;
     orders = d.orders;

@@ -6,7 +6,6 @@ use Rattle.cubit_base.specs.declared.command.Command.{Command}
 use Rattle.cubit_base.specs.declared.table.TheConstants.{ROW_LIMIT}
 use Rattle.cubit_io.specs.Count.{Rose}
 use Rattle.cubit_io.specs.Held.{IsMissing}
-use Rattle.query_report.specs.declared.refusal.Detail.{Detail}
 use Rattle.query_report.specs.declared.refusal.Detail.TheVariants.{Nothing, Fields}
 use Rattle.query_report.specs.declared.refusal.Refusal.{Refusal}
 use Rattle.refresh_streams.specs.Reading as reading
@@ -15,7 +14,7 @@ use Rattle.cubit_cli.specs.declared.halt.Halt.{Halt}
 use Rattle.cubit_cli.specs.declared.halt.Halt.TheVariants.{Usage, FileFault, Refused, SinkFault, Memory}
 use Rattle.cubit_cli.specs.Base.{base_table}
 use Rattle.cubit_cli.specs.Halt.{name_of}
-use Rattle.cubit_cli.specs.Words.{Asked, Query, Run, Drill, QueryValue, RunValue, DrillValue}
+use Rattle.cubit_cli.specs.Words.{Asked, Query, Run, Drill}
 use Rattle.cubit_cli.specs.World.{FilesState}
 
 -- what is wrong with the file of a name

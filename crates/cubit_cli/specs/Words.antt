@@ -8,7 +8,7 @@ use Rattle.cubit_cli.specs.declared.asked.Run.{Run as RunWords}
 use Rattle.cubit_cli.specs.declared.asked.Drill.{Drill as DrillWords}
 use Rattle.cubit_cli.specs.declared.asked.Asked.{Asked as AskedWords}
 use Rattle.cubit_cli.specs.declared.asked.Asked.TheVariants as words
-use Rattle.cubit_cli.specs.declared.words.Options.{Options}
+use Rattle.cubit_cli.specs.declared.asked.Options.{Options as OptionWords}
 
 -- one query: the base file's name, the year, the discount in hundredths, and the quantity
 pub record QueryValue : Type 0 where
@@ -56,6 +56,12 @@ query_of (base ∷ year ∷ discount ∷ quantity ∷ []) =
     (number_within 0 10 (money_value discount)) (number_within 1 51 (quantity_value quantity))
     else None
 query_of words = None
+
+-- the options of a run: the row limit, the log limit and the tries, where they are given
+pub record Options : Type 0 where
+  pub row_limit : Option ℕ
+  pub log_limit : Option ℕ
+  pub tries : Option ℕ
 
 -- no option is given
 abbrev pub no_options : Options
@@ -121,6 +127,9 @@ command_of [] = None
 command_of (name ∷ words) = asked_by name words
 
 -- what words that were read say
+abbrev pub options_value : OptionWords → Options
+options_value o = record { row_limit = o.row_limit; log_limit = o.log_limit; tries = o.tries }
+
 abbrev pub query_value : QueryWords → QueryValue
 query_value q = record { base = q.base.now; year = q.year; disc = q.disc; qty = q.qty }
 

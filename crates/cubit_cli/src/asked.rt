@@ -1,5 +1,5 @@
 //! What the words of the command line ask for.
-ghost use Rattle.std.specs.Prelude.{◌≡◌, ◌≤◌};
+ghost use Rattle.std.specs.Prelude.{◌≡◌, ◌≤◌, unwrap_or};
 
 use cubit_base::{Limits, Predicate};
 
@@ -41,6 +41,20 @@ pub struct Drill {
     /// How many orders these have, 1 to 100,000.
     pub orders: u32,
     ghost orders_in: { (1 ≤ orders) × (orders ≤ 100_000) },
+}
+
+/// The options of a run, where they are given.
+#[derive(Clone, Copy)]
+pub struct Options {
+    /// The most rows, 0 to 16,777,216.
+    pub row_limit: Option<u32>,
+    /// The most deltas, 0 to 4,194,304.
+    pub log_limit: Option<u32>,
+    /// How often something is tried, 1 to 1,000.
+    pub tries: Option<u32>,
+    ghost rows_in: { unwrap_or row_limit 0 ≤ 16_777_216 },
+    ghost deltas_in: { unwrap_or log_limit 0 ≤ 4_194_304 },
+    ghost tries_in: { 1 ≤ unwrap_or tries 1 },
 }
 
 /// What the words ask for.

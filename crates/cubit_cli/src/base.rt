@@ -31,22 +31,25 @@ pub(crate) fn base_table<'a, F: Files>(
     let bytes = match read_all(alloc, files, name) {
         Ok(bytes) => bytes,
         Err(ReadStop::Fault) => return Err(Halt::FileFault(Name::Word(name))),
-        Err(ReadStop::TooLong) => return Err(refused(name, longer_than_the_limit())),
+        Err(ReadStop::TooLong) => return Err(Halt::Refused(
+            Name::Word(name),
+            longer_than_the_limit(),
+        )),
         Err(ReadStop::Memory) => return Err(Halt::Memory),
     };
     match base_of(alloc, &bytes, row_limit) {
         Ok(table) => Ok(table),
-        Err(BaseFault::TooMany(line)) => Err(refused(name, line_too_many(line))),
-        Err(BaseFault::Line(line, fault)) => Err(refused(name, bad_line(line, fault))),
-        Err(BaseFault::Twice(line, first)) => Err(refused(name, repeated_key(line, first))),
+        Err(BaseFault::TooMany(line)) => Err(Halt::Refused(Name::Word(name), line_too_many(line))),
+        Err(BaseFault::Line(line, fault)) => Err(Halt::Refused(
+            Name::Word(name),
+            bad_line(line, fault),
+        )),
+        Err(BaseFault::Twice(line, first)) => Err(Halt::Refused(
+            Name::Word(name),
+            repeated_key(line, first),
+        )),
         Err(BaseFault::Memory) => Err(Halt::Memory),
     }
-}
-
-fn refused<'a>(name: &'a str, refusal: Refusal) -> Halt<'a>
-    ensures { result ≡ Halt.Refused (Name.Word name) refusal }
-{
-    Halt::Refused(Name::Word(name), refusal)
 }
 
 fn longer_than_the_limit() -> Refusal

@@ -1,10 +1,12 @@
 //! A drill: made commands over a made table.
 ghost use Rattle.std.specs.Prelude.{◌≡◌, ◌≤◌, ◌-◌, ◌++◌, [], ◌∷◌, ℕ, List, Some, length, slice_get, IfOk};
 ghost use Rattle.cubit_base.specs.declared.command.Command.{Command as CommandValue};
+ghost use Rattle.cubit_base.specs.declared.command.Command.TheVariants as command;
 ghost use Rattle.cubit_base.specs.declared.delta.Delta.{Delta as DeltaValue};
 ghost use Rattle.cubit_base.specs.declared.entry.Limits.{Limits as LimitsValue};
 ghost use Rattle.cubit_base.specs.Table.{Row};
 ghost use Rattle.query_report.specs.declared.reply.Reply.{Reply as ReplyValue};
+ghost use Rattle.query_report.specs.declared.reply.Reply.TheVariants as reply;
 ghost use Rattle.query_report.specs.ReplyTable.{replies_of};
 ghost use Rattle.refresh_streams.specs.Generator.{everything, made};
 ghost use Rattle.cubit_cli.specs.Reply.{EndsInSum, IsDrillText, IsSession};
@@ -14,7 +16,7 @@ use crate::asked::Drill;
 use crate::session::session;
 use crate::words::default_limits;
 use query_report::{Memory, Reply, ReplyTable, drill_text};
-use refresh_streams::{Script, make};
+use refresh_streams::make;
 use std::alloc::Global;
 
 /// The text of a drill.
@@ -25,7 +27,7 @@ pub(crate) fn drilled(alloc: Global, drill: &Drill) -> Result<Vec<u8>, Memory>
     let (table, script) = make(alloc, drill.seed, drill.orders)?;
     let base = table.len();
     let outcome = session(alloc, table, &script, &default_limits())?;
-    let (front, count, sum) = last_sum(&script, &outcome.replies);
+    let (front, count, sum) = last_sum(&outcome.replies);
     let lines = query_report::Drill {
         seed: drill.seed,
         orders: drill.orders,
@@ -35,19 +37,25 @@ pub(crate) fn drilled(alloc: Global, drill: &Drill) -> Result<Vec<u8>, Memory>
         count,
         sum,
     };
-    drill_text(alloc, &lines)
+    let text = drill_text(alloc, &lines)?;
+    Ok(text)
 }
 
 // The front, the count and the sum of the last reply.
-fn last_sum(script: &Script, replies: &ReplyTable) -> (u32, u32, u64)
-    requires { EndsInSum script.now replies.now }
-    ensures { (patched : ℕ) × (slice_get (replies_of replies.now 0) (length script.now - 1)
-        ≡ Some (ReplyValue.Sum result.0 result.1 result.2 patched)) }
+fn last_sum(replies: &ReplyTable) -> (u32, u32, u64)
+    requires { EndsInSum replies.now }
+    ensures { (patched : ℕ) × (slice_get (replies_of replies.now 0) (length (replies_of replies.now 0) - 1)
+        ≡ Some (reply.Sum result.0 result.1 result.2 patched)) }
 {
-    match replies.get(0, script.len() - 1) {
-        Some(Reply::Sum {
-            front, count, sum, ..
-        }) => (*front, *count, *sum),
+    match replies.get(0, replies.len(0) - 1) {
+        Some(
+            Reply::Sum {
+                front,
+                count,
+                sum,
+                ..
+            },
+        ) => (*front, *count, *sum),
         _ => unreachable!(),
     }
 }
@@ -56,6 +64,6 @@ fn last_sum(script: &Script, replies: &ReplyTable) -> (u32, u32, u64)
 fn ends_in_sum()
     ensures { (limits : LimitsValue) (table : List Row) (commands : List CommandValue)
         (replies : List (List ReplyValue)) (journal : List DeltaValue) →
-        IsSession limits table (commands ++ CommandValue.Sum everything ∷ []) replies journal →
-        EndsInSum (commands ++ CommandValue.Sum everything ∷ []) replies }
+        IsSession limits table (commands ++ command.Sum everything ∷ []) replies journal →
+        EndsInSum replies }
 {}

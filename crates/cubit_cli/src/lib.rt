@@ -1,26 +1,30 @@
-//! The program's top call: words, files and two sinks in; an answer or one line that says why there is none, and a
-//! status, out.
+//! The program's top call: words, files and two sinks in; a command's text, or why there is none, and a status, out.
+//! `q6` answers one query over a base file, `run` the commands of a script, `drill` those of a made script.
 //!
 //! # Proved
 //!
 //! - `run` has one contract, `IsCall`. A call ends in one of six ways, and for each it says what was the cause, what
 //!   the output and standard error took, and the status (`Ends`, `IsTold`, `status_of`): the table of docs/FORMATS.md.
 //!   What the files hold stays, and no count of faults falls (`GoesOn`).
-//! - `laws::statuses` says what follows for every call. Usage comes exactly where the words are no query (`usage`).
-//!   Where a file is in the way there is no answer (`trouble`). Where neither the files nor the output failed, what the
-//!   files hold decides the status, unless memory runs out (`complete`).
-//! - `Status::code`: the exit status of each way to end.
+//! - What a command may write is `IsReply`. A query's text is the line of its answer over the table of its base. A
+//!   run's is the report of replies and a journal that are a run (`IsRun` of `cubit_session`) of the script's commands
+//!   over the table of the base, within the limits of the words; no more rows are made room for than there may be
+//!   (`row_room`). A drill's is the two lines of such a run of the made script, with the last reply.
+//! - `laws::statuses`, for every call: where Usage comes (`usage`), that there is no answer where a file is in the way
+//!   (`trouble`), that the files decide where nothing failed and memory lasts (`complete`), what was written on Done
+//!   (`written`), and that a drill is never refused (`drill`). `Status::code`: the exit status.
 //!
 //! # Only tested
 //!
-//! - Worked rows byte for byte; bases of no line, of three and of 10,000; tables of words, of spellings and of damaged
-//!   lines; each call of files and sinks failing in turn.
+//! - Worked queries, runs and drills byte for byte; bases of no line, of three and of 10,000; tables of words, of
+//!   spellings and of damaged lines, scripts and refresh files; each call of files and sinks failing in turn.
 //! - That a call which can answer Memory does answer where there is memory.
 //!
 //! # Not said
 //!
 //! - Where files do not tell what they hold, as the real ones do not, which answer is written: the clauses then say the
 //!   causes of each ending, the names of files and the form of what is told.
+//! - How many deltas a reply of a run tells of as `patched`, but that it is no more than its front.
 //! - How long a call takes, and how much memory.
 //!
 //! # Example

@@ -1,9 +1,9 @@
 //! The commands of a script, run over a base table.
-ghost use Rattle.std.specs.Prelude.{◌≡◌, ◌≤◌, All, length, count_by, IfOk};
+ghost use Rattle.std.specs.Prelude.{◌≡◌, ◌≤◌, All, length, sum_by, IfOk};
 ghost use Rattle.cubit_base.specs.Table.{HasDistinctKeys};
 ghost use Rattle.cubit_base.specs.declared.table.TheConstants.{ROW_LIMIT};
 ghost use Rattle.refresh_streams.specs.Script.{DropsSomeOrder, weights};
-ghost use Rattle.cubit_cli.specs.Reply.{IsReported, IsSession, is_insert, row_room};
+ghost use Rattle.cubit_cli.specs.Reply.{IsReported, IsSession, row_room, rows_added};
 
 use cubit_base::{Command, Limits, Table, laws};
 use cubit_session::{Outcome, run_script};
@@ -69,15 +69,23 @@ fn row_room(row_limit: u32, table: &Table, script: &Script) -> u32
     }
 }
 
-// How many of the commands are inserts.
+// How many rows the commands may add.
 fn insert_count(script: &Script) -> u32
-    ensures { result ≡ count_by is_insert script.now }
+    ensures { result ≡ sum_by rows_added script.now }
 {
     let mut count = 0;
     for n in 0..script.len() {
-        if let Command::Insert(_, _) = script.get(n).unwrap() {
-            count += 1;
-        }
+        count += rows_added(script.get(n).unwrap());
     }
     count
+}
+
+fn rows_added(command: &Command) -> u32
+    ensures value { result ≡ rows_added command.now }
+    ensures one { result ≤ 1 }
+{
+    match command {
+        Command::Insert(_, _) => 1,
+        _ => 0,
+    }
 }

@@ -33,10 +33,7 @@ pub(crate) fn text_of<'a, F: Files>(
     match asked {
         Asked::Query(query) => query_text(alloc, files, query),
         Asked::Run(run) => run_text(alloc, files, run),
-        Asked::Drill(drill) => match drilled(alloc, drill) {
-            Ok(text) => Ok(text),
-            Err(_) => Err(Halt::Memory),
-        },
+        Asked::Drill(drill) => Ok(drilled(alloc, drill)?),
     }
 }
 
@@ -52,10 +49,7 @@ fn query_text<'a, F: Files>(
     ensures counted { F.faults files.old ≤ F.faults files.new }
 {
     let table = base_table(alloc, files, query.base, ROW_LIMIT)?;
-    match reply(alloc, table, &query.predicate()) {
-        Ok(line) => Ok(line),
-        Err(_) => Err(Halt::Memory),
-    }
+    Ok(reply(alloc, table, &query.predicate())?)
 }
 
 // The line of the answer to a predicate over a table.
@@ -68,11 +62,7 @@ fn reply(alloc: Global, table: Table, predicate: &Predicate) -> Result<Vec<u8>, 
 }
 
 // The report of a run.
-fn run_text<'a, F: Files>(
-    alloc: Global,
-    files: &mut F,
-    run: &Run<'a>,
-) -> Result<Vec<u8>, Halt<'a>>
+fn run_text<'a, F: Files>(alloc: Global, files: &mut F, run: &Run<'a>) -> Result<Vec<u8>, Halt<'a>>
     ensures comes { Comes (ARun (run_value run.now)) (files_state (F.held files.old) (F.faults files.old))
         (files_state (F.held files.new) (F.faults files.new)) result }
     ensures held { F.held files.new ≡ F.held files.old }
@@ -80,8 +70,5 @@ fn run_text<'a, F: Files>(
 {
     let table = base_table(alloc, files, run.base, run.limits.row_limit)?;
     let script = script(alloc, files, run.script)?;
-    match reported(alloc, table, &script, &run.limits) {
-        Ok(text) => Ok(text),
-        Err(_) => Err(Halt::Memory),
-    }
+    Ok(reported(alloc, table, &script, &run.limits)?)
 }

@@ -1,9 +1,9 @@
 //! The words of the command line.
 ghost use Rattle.std.specs.Prelude.{◌≡◌, ◌≤◌, ◌∷◌, [], option_map, map, string_bytes, IfSome};
 ghost use Rattle.refresh_streams.specs.Term.{number_within};
-ghost use Rattle.cubit_cli.specs.Words.{asked_by, asked_value, command_of, drill_of, drill_value, is_base, is_name, limits_of, no_options, once, query_of, query_value, run_of, run_value, with_option};
+ghost use Rattle.cubit_cli.specs.Words.{asked_by, asked_value, command_of, drill_of, drill_value, is_base, is_name, limits_of, no_options, once, options_value, query_of, query_value, run_of, run_value, with_option};
 
-use crate::asked::{Asked, Drill, Query, Run};
+use crate::asked::{Asked, Drill, Options, Query, Run};
 use cubit_base::Limits;
 use tbl_text::{integer_of, money_of, quantity_of};
 
@@ -53,20 +53,6 @@ fn read_query(words: &[String]) -> Option<Query<'_>>
     })
 }
 
-/// The options of a run, where they are given.
-#[derive(Clone, Copy)]
-pub(crate) struct Options {
-    /// The most rows, 0 to 16,777,216.
-    row_limit: Option<u32>,
-    /// The most deltas, 0 to 4,194,304.
-    log_limit: Option<u32>,
-    /// How often something is tried, 1 to 1,000.
-    tries: Option<u32>,
-    ghost rows_in: { IfSome row_limit (λ n. n ≤ 16_777_216) },
-    ghost deltas_in: { IfSome log_limit (λ n. n ≤ 4_194_304) },
-    ghost tries_in: { IfSome tries (λ n. 1 ≤ n) },
-}
-
 const NO_OPTIONS: Options = Options {
     row_limit: None,
     log_limit: None,
@@ -76,7 +62,7 @@ const NO_OPTIONS: Options = Options {
 impl Options {
     // One option more.
     fn with(self, name: &str, number: Option<u64>) -> Option<Options>
-        ensures { with_option name.now number self ≡ result }
+        ensures { with_option name.now number (options_value self) ≡ option_map options_value result }
     {
         let mut options = self;
         if name == "--row-limit" {
@@ -93,7 +79,7 @@ impl Options {
 
     // What is not given has its default.
     fn limits(&self) -> Limits
-        ensures { result ≡ limits_of self.now }
+        ensures { result ≡ limits_of (options_value self.now) }
     {
         Limits {
             row_limit: self.row_limit.unwrap_or(16_777_216),
@@ -123,7 +109,7 @@ fn once(before: Option<u32>, number: Option<u64>) -> Option<u32>
 
 // The options that are left, the base file and the script.
 fn read_run(words: &[String], options: Options) -> Option<Run<'_>>
-    ensures { run_of (map string_bytes words.now) options ≡ option_map run_value result }
+    ensures { run_of (map string_bytes words.now) (options_value options) ≡ option_map run_value result }
 {
     match words {
         [base, script] => read_names(base.as_str(), script.as_str(), options),
@@ -136,7 +122,7 @@ fn read_run(words: &[String], options: Options) -> Option<Run<'_>>
 }
 
 fn read_names<'a>(base: &'a str, script: &'a str, options: Options) -> Option<Run<'a>>
-    ensures { run_of (base.now ∷ script.now ∷ []) options ≡ option_map run_value result }
+    ensures { run_of (base.now ∷ script.now ∷ []) (options_value options) ≡ option_map run_value result }
 {
     if !is_base_name(base) || script.is_empty() {
         return None;

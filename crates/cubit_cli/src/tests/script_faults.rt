@@ -64,22 +64,58 @@ fn one_line(rt: HostRuntime) -> Result<(), Fail> {
     Ok(())
 }
 
+const FIFTEEN: &[u8] = b"1|1|1|1|17|1.00|0.04|0.02|N|O|1996-03-13|a|b|c|d|\n";
+
+const INSERTS: &[u8] =
+    b"7|1|1|1|10|100.00|0.05|0.01|A|F|1994-06-15|1994-06-15|1994-06-15|x|AIR|x|\n7|1|1|2\n";
+
+// The base, the script, and what comes of them.
+const FIRST_FILES: [(&[u8], &[u8], Status, &str); 6] = [
+    (
+        A,
+        b"insert-file U\n",
+        Status::Refused,
+        "cubit: U: line 2: fault 1 fields=4\n",
+    ),
+    (
+        A,
+        b"merge\ndelete-file D\n",
+        Status::Refused,
+        "cubit: D: line 2: fault 15\n",
+    ),
+    (
+        A,
+        b"insert-file NONE\nMerge\n",
+        Status::FileFault,
+        "cubit: NONE: cannot be read\n",
+    ),
+    (
+        A,
+        b"Merge\ninsert-file NONE\n",
+        Status::Refused,
+        "cubit: S: line 1: fault 14\n",
+    ),
+    (
+        A,
+        b"delete-file D\ninsert-file NONE\n",
+        Status::Refused,
+        "cubit: D: line 2: fault 15\n",
+    ),
+    (
+        FIFTEEN,
+        b"Merge\n",
+        Status::Refused,
+        "cubit: A: line 1: fault 1 fields=15\n",
+    ),
+];
+
 #[test]
 fn the_first_file(rt: HostRuntime) -> Result<(), Fail> {
-    let insert = "7|1|1|1|10|100.00|0.05|0.01|A|F|1994-06-15|1994-06-15|1994-06-15|x|AIR|x|\n7|1|1|2\n";
-    let fifteen = "1|1|1|1|17|1.00|0.04|0.02|N|O|1996-03-13|a|b|c|d|\n";
-    for (base, script, status, err) in [
-        (A, "insert-file U\n", Status::Refused, "cubit: U: line 2: fault 1 fields=4\n"),
-        (A, "merge\ndelete-file D\n", Status::Refused, "cubit: D: line 2: fault 15\n"),
-        (A, "insert-file NONE\nMerge\n", Status::FileFault, "cubit: NONE: cannot be read\n"),
-        (A, "Merge\ninsert-file NONE\n", Status::Refused, "cubit: S: line 1: fault 14\n"),
-        (A, "delete-file D\ninsert-file NONE\n", Status::Refused, "cubit: D: line 2: fault 15\n"),
-        (fifteen.as_bytes(), "Merge\n", Status::Refused, "cubit: A: line 1: fault 1 fields=15\n"),
-    ] {
+    for (base, script, status, err) in FIRST_FILES {
         let held: [(&str, &[u8]); 4] = [
             ("A", base),
-            ("S", script.as_bytes()),
-            ("U", insert.as_bytes()),
+            ("S", script),
+            ("U", INSERTS),
             ("D", b"1|\nx\n"),
         ];
         refuses(&rt, rt.alloc(), &held, status, err)?;
@@ -96,7 +132,11 @@ fn no_script(rt: HostRuntime) -> Result<(), Fail> {
     );
     for (base, status, err) in [
         (A, Status::FileFault, "cubit: S: cannot be read\n"),
-        (twice.as_bytes(), Status::Refused, "cubit: A: line 2: fault 12 first=1\n"),
+        (
+            twice.as_bytes(),
+            Status::Refused,
+            "cubit: A: line 2: fault 12 first=1\n",
+        ),
     ] {
         refuses(&rt, alloc, &[("A", base)], status, err)?;
     }

@@ -1,4 +1,4 @@
-use Rattle.std.proofs.Common.{◌∙◌, sym}
+use Rattle.std.proofs.Common.{sym}
 use Rattle.cubit_cli.proofs.Endings.{Ends-usage, Ends-trouble, Ends-complete, Ends-written, Ends-drill}
 use Rattle.cubit_cli.proofs.laws.statuses.Goals as goal
 
@@ -21,8 +21,8 @@ returns-clause-complete c words before after status asked contents call is_asked
 pub returns-clause-written : goal.returns-clause-written
 returns-clause-written c words before after asked contents call is_asked told =
     let ends = rw is_asked at call.ends in
-    Ends-written asked contents before.files after.files before.out after.out told call.ending (sym call.has_status) ends
-    contents told
+    Ends-written asked contents before.files after.files before.out after.out told call.ending (sym call.has_status)
+    ends contents told
 
 pub returns-clause-drill : goal.returns-clause-drill
 returns-clause-drill c words before after status drill call is_asked =
