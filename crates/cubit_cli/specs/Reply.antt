@@ -18,6 +18,7 @@ use Rattle.query_report.specs.declared.reply.Reply.{Reply}
 use Rattle.query_report.specs.declared.reply.Reply.TheVariants.{Sum}
 use Rattle.refresh_streams.specs.Generator.{made}
 use Rattle.refresh_streams.specs.Reading.{Contents}
+use Rattle.cubit_session.specs.Alone.{IsAlone}
 use Rattle.cubit_session.specs.Run.{Setting, IsRun}
 use Rattle.cubit_cli.specs.Trouble.{table_at, script_at}
 use Rattle.cubit_cli.specs.Words.{Asked, Query, Run, Drill, QueryValue, RunValue, DrillValue, default_limits}
@@ -49,6 +50,7 @@ setting limits table commands =
 pub record IsSession (limits : Limits) (table : List Row) (commands : List Command) (replies : List (List Reply))
     (journal : List Delta) : Type 0 where
   pub run : IsRun (setting limits table commands) (commands ∷ []) replies journal
+  pub alone : IsAlone (setting limits table commands) commands (replies_of replies 0) journal
 
 -- the report of a session
 pub record IsReported (limits : Limits) (table : List Row) (commands : List Command) (text : List ℕ) : Type 0 where
