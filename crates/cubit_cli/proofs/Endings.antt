@@ -10,7 +10,7 @@ use Rattle.cubit_cli.specs.declared.halt.Halt.TheVariants as halt
 use Rattle.cubit_cli.specs.declared.status.Status.TheVariants.{Done, Usage, FileFault, SinkFault, Memory}
 use Rattle.cubit_cli.specs.Call.{Replies, Ends}
 use Rattle.cubit_cli.specs.Halt.{name_of}
-use Rattle.cubit_cli.specs.Reply.{IsReply}
+use Rattle.cubit_cli.specs.Reply.{IsReply, IsReplyWhereTold}
 use Rattle.cubit_cli.specs.Status.{Ending, status_of, status_of_trouble}
 use Rattle.cubit_cli.specs.Trouble.{Trouble, Missing, or_missing, or_trouble, first_trouble, script_at, trouble_of, Reads}
 use Rattle.cubit_cli.specs.Words.{Asked, Query, Run, Drill, DrillValue}
@@ -44,6 +44,24 @@ Ends-drill drill files files' out out' (Err (halt.Refused name refusal)) ends = 
 Ends-drill drill files files' out out' (Err halt.SinkFault) ends = inr (inl refl)
 Ends-drill drill files files' out out' (Err halt.Memory) ends = inr (inr refl)
 
+-- the output took what the command may write
+pub Ends-took : (asked : Asked) (files files' : FilesState) (out out' : SinkState) (ending : Ending)
+    → status_of ending ≡ Done → Ends (Some asked) files files' out out' ending
+    → Replies asked files.held (GrewBy out.taken out'.taken)
+Ends-took asked files files' out out' (Ok done) is ends = ends
+Ends-took asked files files' out out' (Err halt.Usage) is ends = absurd ends.0
+Ends-took asked files files' out out' (Err (halt.FileFault name)) is ends = cc
+Ends-took asked files files' out out' (Err (halt.Refused name refusal)) is ends = cc
+Ends-took asked files files' out out' (Err halt.SinkFault) is ends = cc
+Ends-took asked files files' out out' (Err halt.Memory) is ends = cc
+
+-- what a command may write, where it is told what the files hold
+pub IsReply-told : (asked : Asked) (contents : Contents) (held : Held) (text : List ℕ) → held ≡ Some contents
+    → IsReplyWhereTold asked held text → IsReply asked contents text
+IsReply-told (Query q) contents held text told reply = reply contents told
+IsReply-told (Run r) contents held text told reply = reply contents told
+IsReply-told (Drill d) contents held text told reply = reply
+
 -- a command that has a reply has no file in its way
 IsReply-trouble : (asked : Asked) (contents : Contents) (text : List ℕ) → IsReply asked contents text
     → trouble_of asked contents ≡ None
@@ -74,7 +92,7 @@ module _ (asked : Asked) (contents : Contents) where
   Replies-done : (held : Held) (P : List ℕ → Type 0) → held ≡ Some contents → Replies asked held P
       → trouble_of asked contents ≡ None
   Replies-done held P told replies =
-      let reply = replies contents told in IsReply-trouble asked contents reply.0 reply.1
+      IsReply-trouble asked contents replies.0 (IsReply-told asked contents held replies.0 told replies.1)
 
   -- a command that a file is in the way of has no reply
   Replies-trouble : (held : Held) (trouble : Trouble) (P : List ℕ → Type 0)
@@ -119,13 +137,3 @@ module _ (asked : Asked) (contents : Contents) where
         inl (ap status_of_trouble (sym (ends.0.1 contents told)))
     Ends-complete (Err halt.SinkFault) files_well out_well ends = absurd (out_well ends.0)
     Ends-complete (Err halt.Memory) files_well out_well ends = inr refl
-
-    -- what is written is what the command may write
-    pub Ends-written : (ending : Ending) → status_of ending ≡ Done
-        → Ends (Some asked) files files' out out' ending → Replies asked files.held (GrewBy out.taken out'.taken)
-    Ends-written (Ok done) is ends = ends
-    Ends-written (Err halt.Usage) is ends = absurd ends.0
-    Ends-written (Err (halt.FileFault name)) is ends = cc
-    Ends-written (Err (halt.Refused name refusal)) is ends = cc
-    Ends-written (Err halt.SinkFault) is ends = cc
-    Ends-written (Err halt.Memory) is ends = cc

@@ -8,17 +8,17 @@ use Rattle.cubit_cli.specs.declared.halt.Halt.{Halt}
 use Rattle.cubit_cli.specs.declared.halt.Halt.TheVariants.{Usage, FileFault, Refused, SinkFault, Memory}
 use Rattle.cubit_cli.specs.declared.status.Status.{Status}
 use Rattle.cubit_cli.specs.Halt.{name_of, halt_text}
-use Rattle.cubit_cli.specs.Reply.{IsReply}
+use Rattle.cubit_cli.specs.Reply.{IsReplyWhereTold}
 use Rattle.cubit_cli.specs.Status.{Ending, status_of}
 use Rattle.cubit_cli.specs.Trouble.{Bad, trouble_of, Reads, MayRead}
 use Rattle.cubit_cli.specs.Words.{Asked, command_of}
 use Rattle.cubit_cli.specs.World.{FilesState, SinkState, World, GoesOn}
 
--- where told, P holds of a text that the command may write
+-- P holds of a text that the command may write
 abbrev pub Replies : Asked → Held → (List ℕ → Type 0) → Type 0
-Replies asked held P = WhereTold held (λ contents. (text : List ℕ) × IsReply asked contents text × P text)
+Replies asked held P = (text : List ℕ) × IsReplyWhereTold asked held text × P text
 
--- why a command comes to no text
+-- why a command comes to no text; memory alone hinders a drill, which may read no file
 abbrev pub Hinders : Asked → FilesState → FilesState → Halt → Type 0
 Hinders asked files files' (FileFault name) =
     (IsMissing files.held (name_of name) ⊎ Rose files.faults files'.faults) × MayRead asked (name_of name)
@@ -32,7 +32,7 @@ Hinders asked files files' SinkFault = ⊥
 
 -- a command comes to a text, or is hindered
 abbrev pub Comes : {A : Type 0} → Asked → FilesState → FilesState → Result (Vec ℕ A) Halt → Type 0
-Comes asked files files' (Ok text) = WhereTold files.held (λ contents. IsReply asked contents text.items)
+Comes asked files files' (Ok text) = IsReplyWhereTold asked files.held text.items
 Comes asked files files' (Err halt) = Hinders asked files files' halt
 
 -- the output took nothing

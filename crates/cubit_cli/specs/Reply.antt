@@ -8,6 +8,7 @@ use Rattle.cubit_base.specs.declared.command.Command.TheVariants.{Insert}
 use Rattle.cubit_base.specs.declared.delta.Delta.{Delta}
 use Rattle.cubit_base.specs.declared.entry.Limits.{Limits}
 use Rattle.cubit_base.specs.declared.table.TheConstants.{ROW_LIMIT}
+use Rattle.cubit_io.specs.Held.{Held}
 use Rattle.wah_words.specs.Place.{page_count}
 use Rattle.unit_version.specs.Unit.{unit_count}
 use Rattle.query_report.specs.Answer.{answer_text}
@@ -17,7 +18,7 @@ use Rattle.query_report.specs.ReplyTable.{replies_of}
 use Rattle.query_report.specs.declared.reply.Reply.{Reply}
 use Rattle.query_report.specs.declared.reply.Reply.TheVariants.{Sum}
 use Rattle.refresh_streams.specs.Generator.{made}
-use Rattle.refresh_streams.specs.Reading.{Contents}
+use Rattle.refresh_streams.specs.Reading.{Contents, WhereTold}
 use Rattle.cubit_session.specs.Alone.{IsAlone}
 use Rattle.cubit_session.specs.Run.{Setting, IsRun}
 use Rattle.cubit_cli.specs.Trouble.{table_at, script_at}
@@ -102,3 +103,9 @@ abbrev pub IsReply : Asked → Contents → List ℕ → Type 0
 IsReply (Query q) contents text = IsAnswered q contents text
 IsReply (Run r) contents text = IsRunText r contents text
 IsReply (Drill d) contents text = IsDrillText d text
+
+-- the same, as far as it is told what the files hold; a drill's text is the same whatever they hold
+abbrev pub IsReplyWhereTold : Asked → Held → List ℕ → Type 0
+IsReplyWhereTold (Query q) held text = WhereTold held (λ contents. IsAnswered q contents text)
+IsReplyWhereTold (Run r) held text = WhereTold held (λ contents. IsRunText r contents text)
+IsReplyWhereTold (Drill d) held text = IsDrillText d text

@@ -4,7 +4,7 @@ ghost use Rattle.cubit_io.specs.Count.{Rose};
 ghost use Rattle.cubit_io.specs.Pieces.{GrewBy};
 ghost use Rattle.refresh_streams.specs.Reading.{Contents};
 ghost use Rattle.cubit_cli.specs.Call.{IsCall};
-ghost use Rattle.cubit_cli.specs.Reply.{IsReply};
+ghost use Rattle.cubit_cli.specs.Reply.{IsDrillText, IsReply};
 ghost use Rattle.cubit_cli.specs.Status.{status_of_trouble};
 ghost use Rattle.cubit_cli.specs.Trouble.{Trouble, trouble_of};
 ghost use Rattle.cubit_cli.specs.Words.{Asked, Drill as ADrill, DrillValue, command_of};
@@ -43,4 +43,9 @@ pub fn statuses()
     ensures drill { (words : List (List ℕ)) (before after : World) (status : Status) (drill : DrillValue) →
         IsCall words before after status → command_of words ≡ Some (ADrill drill) →
         (status ≡ Status.Done) ⊎ ((status ≡ Status.SinkFault) ⊎ (status ≡ Status.Memory)) }
+
+    // So whatever the files tell, Done says that the output took the drill's text.
+    ensures drilled { (words : List (List ℕ)) (before after : World) (drill : DrillValue) →
+        IsCall words before after Status.Done → command_of words ≡ Some (ADrill drill) →
+        (text : List ℕ) × IsDrillText drill text × GrewBy before.out.taken after.out.taken text }
 {}

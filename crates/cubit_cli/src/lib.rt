@@ -8,11 +8,13 @@
 //!   What the files hold stays, and no count of faults falls (`GoesOn`).
 //! - What a command may write is `IsReply`. A query's text is the line of its answer over the table of its base. A
 //!   run's is the report of replies and a journal that are a run (`IsRun` of `cubit_session`) of the script's commands
-//!   over the table of the base, within the limits of the words; no more rows are made room for than there may be
-//!   (`row_room`). A drill's is the two lines of such a run of the made script, with the last reply.
+//!   over the table of the base, within the limits of the words, by a worker that is alone (`IsAlone`); no more rows
+//!   are made room for than there may be (`row_room`). A drill's is the two lines of such a run of the made script over
+//!   the made table, with the last reply; it reads no file, so this is said whatever the files tell.
 //! - `laws::statuses`, for every call: where Usage comes (`usage`), that there is no answer where a file is in the way
 //!   (`trouble`), that the files decide where nothing failed and memory lasts (`complete`), what was written on Done
-//!   (`written`), and that a drill is never refused (`drill`). `Status::code`: the exit status.
+//!   (`written`, and `drilled` of a drill), and that a drill is never refused (`drill`). `Status::code`: the exit
+//!   status.
 //!
 //! # Only tested
 //!
@@ -22,9 +24,8 @@
 //!
 //! # Not said
 //!
-//! - Where files do not tell what they hold, as the real ones do not, which answer is written: the clauses then say the
-//!   causes of each ending, the names of files and the form of what is told.
-//! - How many deltas a reply of a run tells of as `patched`, but that it is no more than its front.
+//! - Where files do not tell what they hold, as the real ones do not, which answer or report is written: the clauses
+//!   then say the causes of each ending, the names of files and the form of what is told.
 //! - How long a call takes, and how much memory.
 //!
 //! # Example

@@ -1,8 +1,7 @@
 //! The commands of a script, run over a base table.
-ghost use Rattle.std.specs.Prelude.{◌≡◌, ◌≤◌, All, length, sum_by, IfOk};
+ghost use Rattle.std.specs.Prelude.{◌≡◌, ◌≤◌, sum_by, IfOk};
 ghost use Rattle.cubit_base.specs.Table.{HasDistinctKeys};
-ghost use Rattle.cubit_base.specs.declared.table.TheConstants.{ROW_LIMIT};
-ghost use Rattle.refresh_streams.specs.Script.{DropsSomeOrder, weights};
+ghost use Rattle.cubit_session.specs.Through.{CanRun};
 ghost use Rattle.cubit_cli.specs.Reply.{IsReported, IsSession, row_room, rows_added};
 
 use cubit_base::{Command, Limits, Table, laws};
@@ -20,11 +19,7 @@ pub(crate) fn reported(
     limits: &Limits,
 ) -> Result<Vec<u8>, Memory>
     requires keys { HasDistinctKeys table }
-    requires rows { (length table ≤ limits.now.row_limit) × (limits.now.row_limit ≤ ROW_LIMIT) }
-    requires deltas { limits.now.log_limit ≤ 4_194_304 }
-    requires tries { 1 ≤ limits.now.tries }
-    requires orders { All DropsSomeOrder script.now }
-    requires weights { weights script.now ≤ 4_194_304 }
+    requires can_run { CanRun limits.now table script.now }
     ensures { IfOk result (λ text. IsReported limits.now table script.now text.items) }
 {
     let outcome = session(alloc, table, script, limits)?;
@@ -39,11 +34,7 @@ pub(crate) fn session(
     limits: &Limits,
 ) -> Result<Outcome, Memory>
     requires keys { HasDistinctKeys table }
-    requires rows { (length table ≤ limits.now.row_limit) × (limits.now.row_limit ≤ ROW_LIMIT) }
-    requires deltas { limits.now.log_limit ≤ 4_194_304 }
-    requires tries { 1 ≤ limits.now.tries }
-    requires orders { All DropsSomeOrder script.now }
-    requires weights { weights script.now ≤ 4_194_304 }
+    requires can_run { CanRun limits.now table script.now }
     ensures { IfOk result (λ o. IsSession limits.now table script.now o.replies o.journal) }
 {
     laws::live_rows();

@@ -10,8 +10,9 @@ use Rattle.cubit_base.specs.declared.command.Command.TheVariants.{Insert, Update
 use Rattle.commit_log.specs.Log.{Terms}
 use Rattle.commit_log.specs.Handle.{Handle, Grows, SeesMore, ReadsOn, with_look, mine}
 use Rattle.commit_log.specs.declared.front.Front.{Front}
+use Rattle.unit_version.specs.BaseValue.{BaseValue}
 use Rattle.unit_version.specs.Unit.{unit_count}
-use Rattle.version_store.specs.Store.{Store, Asks}
+use Rattle.version_store.specs.Store.{Store, IsStanding, Asks}
 use Rattle.table_ops.specs.Found.{IsFound, page_of}
 use Rattle.table_ops.specs.Changed.{IsChanged}
 use Rattle.table_ops.specs.declared.outcome.Placed.{Placed}
@@ -37,6 +38,10 @@ pub record Told : Type 0 where
 
 abbrev pub told_by : {L S : Type 0} → (L → Handle) → (S → Store) → L × S → Told
 told_by handle store (l, s) = record { log = handle l; store = store s }
+
+-- a worker's handles are to each other and to the base what the layers below ask for
+abbrev pub StandsOver : {L S : Type 0} → Terms → (S → Store) → (S → L → Type 0) → BaseValue → L × S → Type 0
+StandsOver terms store over base worker = IsStanding terms (store worker.1) base (over worker.1 worker.0)
 
 -- the reply that tells what a change came to
 abbrev pub change_reply : Result Placed OpStop → Reply

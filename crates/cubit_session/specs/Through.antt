@@ -1,6 +1,8 @@
 -- A worker that ran commands one after another, and nobody else replied.
-use Rattle.std.specs.Prelude.{◌≡◌, ℕ, ◌<◌, List, [], flat_map}
+use Rattle.std.specs.Prelude.{◌≡◌, ℕ, ◌≤◌, ◌<◌, List, [], All, flat_map}
 use Rattle.std.specs.List.{AllZip}
+use Rattle.cubit_base.specs.History.{LimitsFit}
+use Rattle.cubit_base.specs.Table.{Row}
 use Rattle.cubit_base.specs.declared.command.Command.{Command}
 use Rattle.cubit_base.specs.declared.entry.Limits.{Limits}
 use Rattle.wah_words.specs.Place.{page_count}
@@ -9,8 +11,17 @@ use Rattle.unit_version.specs.Unit.{unit_count}
 use Rattle.commit_log.specs.Handle.{Handle}
 use Rattle.query_report.specs.declared.reply.Reply.{Reply}
 use Rattle.query_report.specs.ReplyTable.{replies_of}
+use Rattle.refresh_streams.specs.Script.{DropsSomeOrder, weights}
 use Rattle.cubit_session.specs.Run.{Setting, Answers, marks_of, places_of}
 use Rattle.cubit_session.specs.Step.{AddsTo}
+
+-- a script can be run over a table within limits: they fit the table, something is tried, each order that is dropped
+-- has a key, and a log holds as many deltas as the commands may place
+pub record CanRun (limits : Limits) (table : List Row) (commands : List Command) : Type 0 where
+  pub fit : LimitsFit limits.row_limit limits.log_limit table
+  pub tries : 1 ≤ limits.tries
+  pub orders : All DropsSomeOrder commands
+  pub weights : weights commands ≤ 4_194_304
 
 -- a run over a base within limits
 abbrev pub run_setting : BaseValue → Limits → Setting

@@ -16,10 +16,12 @@
 //! - `run_script` (`alone`, `IsAlone`): the worker has its log and its store to itself, so a query's units are brought
 //!   on by as many deltas as were placed since the last merge, and by none where it needs no unit. A merge finds all
 //!   units fresh where none were placed since the last one, and else merges all; none is busy.
+//! - `laws::parts` and `laws::alone` carry the two on, from one command to the next.
 //!
 //! # Only tested
 //!
-//! That scripts find memory where there is some, and worked reports, byte for byte.
+//! That a script finds memory where there is some, and a worked report with every form of command, byte for byte;
+//! `cubit_cli` has more of them.
 //!
 //! # Not said
 //!

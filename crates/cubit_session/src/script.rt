@@ -1,6 +1,5 @@
 //! One script, run by one worker.
 ghost use Rattle.std.specs.Prelude.{◌≡◌, ℕ, ◌+◌, ◌≤◌, ◌<◌, List, [], ◌∷◌, All, IfOk, length};
-ghost use Rattle.cubit_base.specs.History.{LimitsFit};
 ghost use Rattle.wah_words.specs.Place.{page_count};
 ghost use Rattle.cubit_base.specs.declared.delta.Delta.{Delta as DeltaValue};
 ghost use Rattle.cubit_base.specs.declared.command.Command.{Command as CommandValue};
@@ -16,7 +15,7 @@ ghost use Rattle.refresh_streams.specs.Script.{DropsSomeOrder, weights};
 ghost use Rattle.cubit_session.specs.Run.{IsRun};
 ghost use Rattle.cubit_session.specs.Step.{setting_of, told_by};
 ghost use Rattle.cubit_session.specs.Alone.{IsAlone, HasRunAlone};
-ghost use Rattle.cubit_session.specs.Through.{HasRun, run_setting};
+ghost use Rattle.cubit_session.specs.Through.{CanRun, HasRun, run_setting};
 
 use crate::Worker;
 use crate::laws::{alone, parts, steps as step_laws};
@@ -47,11 +46,8 @@ pub fn run_script(
     script: &Script,
     limits: &Limits,
 ) -> Result<Outcome, Memory>
-    requires fit { LimitsFit limits.now.row_limit limits.now.log_limit base.now.table }
+    requires can_run { CanRun limits.now base.now.table script.now }
     requires room { limits.now.row_limit ≤ base.now.row_room }
-    requires tries { 1 ≤ limits.now.tries }
-    requires orders { All DropsSomeOrder script.now }
-    requires weights { weights script.now ≤ 4_194_304 }
     ensures run { IfOk result (λ o. IsRun (run_setting base.now limits.now) (script.now ∷ []) o.replies o.journal) }
     ensures alone { IfOk result (λ o. IsAlone (run_setting base.now limits.now) script.now (replies_of o.replies 0)
         o.journal) }
@@ -72,11 +68,8 @@ fn run_over<S: Setup, N: Ledger>(
     requires some { 0 < N.parts }
     requires base { S.base ≡ base.now.table }
     requires limits { S.limits ≡ limits.now }
-    requires fit { LimitsFit limits.now.row_limit limits.now.log_limit base.now.table }
+    requires can_run { CanRun limits.now base.now.table script.now }
     requires room { limits.now.row_limit ≤ base.now.row_room }
-    requires tries { 1 ≤ limits.now.tries }
-    requires orders { All DropsSomeOrder script.now }
-    requires weights { weights script.now ≤ 4_194_304 }
     ensures run { IfOk result (λ o. IsRun (run_setting base.now limits.now) (script.now ∷ []) o.replies o.journal) }
     ensures alone { IfOk result (λ o. IsAlone (run_setting base.now limits.now) script.now (replies_of o.replies 0)
         o.journal) }

@@ -4,9 +4,8 @@ ghost use Rattle.cubit_base.specs.Command.{weight_of};
 ghost use Rattle.cubit_base.specs.declared.command.Command.TheVariants.{DropOrder};
 ghost use Rattle.refresh_streams.specs.Script.{DropsSomeOrder};
 ghost use Rattle.commit_log.specs.Serial.{serial_terms, serial_handle};
-ghost use Rattle.version_store.specs.Store.{IsStanding};
 ghost use Rattle.version_store.specs.Memory.{memory_store};
-ghost use Rattle.cubit_session.specs.Step.{IsStep, Replies, DropsLine, told_by};
+ghost use Rattle.cubit_session.specs.Step.{IsStep, StandsOver, Replies, DropsLine, told_by};
 ghost use Rattle.cubit_session.specs.Alone.{OwnsLog};
 
 use crate::replies::{
@@ -61,13 +60,13 @@ impl<S: VersionStore> Worker<S> {
         command: &Command,
         tries: u32,
     ) -> Result<Reply, Memory>
-        requires standing { IsStanding S.Log.terms (S.store self.old.1) base.now (S.over self.old.1 self.old.0) }
+        requires standing { StandsOver S.Log.terms S.store S.over base.now self.old }
         requires tries { 1 ≤ tries }
         requires spare { weight_of command.now ≤ (S.Log.handle self.old.0).spare }
         requires order { DropsSomeOrder command.now }
         ensures steps { IsStep S.Log.terms tries command.now (told_by S.Log.handle S.store self.old)
             (told_by S.Log.handle S.store self.new) result }
-        ensures standing { IsStanding S.Log.terms (S.store self.new.1) base.now (S.over self.new.1 self.new.0) }
+        ensures standing { StandsOver S.Log.terms S.store S.over base.now self.new }
     {
         let blanks = (Blank::new(1), Blank::new(1));
         self.step_counted::<Brand, Brand>(alloc, blanks, base, command, tries)
@@ -88,13 +87,13 @@ impl<S: VersionStore> Worker<S> {
         requires reads_name { blanks.1.name ≡ M.name }
         requires reads_parts { blanks.1.parts ≡ M.parts }
         requires reads_some { 0 < M.parts }
-        requires standing { IsStanding S.Log.terms (S.store self.old.1) base.now (S.over self.old.1 self.old.0) }
+        requires standing { StandsOver S.Log.terms S.store S.over base.now self.old }
         requires tries { 1 ≤ tries }
         requires spare { weight_of command.now ≤ (S.Log.handle self.old.0).spare }
         requires order { DropsSomeOrder command.now }
         ensures steps { IsStep S.Log.terms tries command.now (told_by S.Log.handle S.store self.old)
             (told_by S.Log.handle S.store self.new) result }
-        ensures standing { IsStanding S.Log.terms (S.store self.new.1) base.now (S.over self.new.1 self.new.0) }
+        ensures standing { StandsOver S.Log.terms S.store S.over base.now self.new }
     {
         let (steps, reads) = blanks;
         let steps = &mut Steps::<N>::make(steps);
@@ -130,13 +129,13 @@ impl<S: VersionStore> Worker<S> {
         tries: u32,
         steps: &mut Steps<N>,
     ) -> Reply
-        requires standing { IsStanding S.Log.terms (S.store self.old.1) base.now (S.over self.old.1 self.old.0) }
+        requires standing { StandsOver S.Log.terms S.store S.over base.now self.old }
         requires tries { 1 ≤ tries }
         requires spare { 7 ≤ (S.Log.handle self.old.0).spare }
         requires order { 1 ≤ order }
         ensures steps { Replies S.Log.terms tries (DropOrder order) (told_by S.Log.handle S.store self.old)
             (told_by S.Log.handle S.store self.new) result }
-        ensures standing { IsStanding S.Log.terms (S.store self.new.1) base.now (S.over self.new.1 self.new.0) }
+        ensures standing { StandsOver S.Log.terms S.store S.over base.now self.new }
     {
         Reply::DropLines([
             self.drop_line(base, order, 1, tries, steps),
@@ -158,14 +157,14 @@ impl<S: VersionStore> Worker<S> {
         tries: u32,
         steps: &mut Steps<N>,
     ) -> DropLine
-        requires standing { IsStanding S.Log.terms (S.store self.old.1) base.now (S.over self.old.1 self.old.0) }
+        requires standing { StandsOver S.Log.terms S.store S.over base.now self.old }
         requires tries { 1 ≤ tries }
         requires spare { 1 ≤ (S.Log.handle self.old.0).spare }
         requires order { 1 ≤ order }
         requires line { (1 ≤ line) × (line ≤ 7) }
         ensures drops { DropsLine S.Log.terms order line (told_by S.Log.handle S.store self.old)
             (told_by S.Log.handle S.store self.new) result }
-        ensures standing { IsStanding S.Log.terms (S.store self.new.1) base.now (S.over self.new.1 self.new.0) }
+        ensures standing { StandsOver S.Log.terms S.store S.over base.now self.new }
         ensures spare { (S.Log.handle self.old.0).spare ≤ (S.Log.handle self.new.0).spare + 1 }
     {
         let key = Key { order, line };
