@@ -55,6 +55,11 @@ module _ (t : CoreTerms) (ws : List ℕ) (ch : Chain) (l : IsLinked t ws ch) (f 
       let up : k + 1 ≡ suc k = omega arith in
       omega (arith, f.nodes k (omega arith), ap (node_at ch) up)
 
+  pub only-head : (k : ℕ) → IsNodeAt ch 0 k → k ≡ 0
+  only-head k at = dite (dec_lt 0 k)
+      (λ lt. let some = node-positive k lt at.within in let is = at.is in absurd (omega arith))
+      (λ ge. omega arith)
+
   pub last-link : link ws (node_at ch (length ch.history)) ≡ 0
   last-link =
       let count = l.count in

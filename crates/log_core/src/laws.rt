@@ -1,10 +1,11 @@
 //! What follows for steps of a core, and what one party can do alone, whatever the others have left half done.
 //!
 //! The functions without arguments do nothing: where one is called, its clauses are known.
-ghost use Rattle.std.specs.Prelude.{◌≡◌, ℕ, ◌<◌, ◌≤◌, [], ◌∷◌, ◌++◌, length, IsTrue, ◌↔◌};
+ghost use Rattle.std.specs.Prelude.{◌≡◌, ℕ, ◌+◌, ◌<◌, ◌≤◌, [], ◌∷◌, ◌++◌, length, IsTrue, ◌↔◌};
 ghost use Rattle.cubit_base.specs.EntryWords.{FitsWords};
 ghost use Rattle.log_core.specs.Chain.{tail, link, node_at, IsNodeAt, delta_count, entry_count, end_at};
-ghost use Rattle.log_core.specs.Core.{CoreValue, party as party_of, IsSound};
+ghost use Rattle.log_core.specs.Terms.{CoreTerms, share, first_node, node_count};
+ghost use Rattle.log_core.specs.Core.{CoreValue, party as party_of, made_core, IsSound};
 ghost use Rattle.log_core.specs.Growing.{HasGrown, behind};
 ghost use Rattle.log_core.specs.Steps.{TakesStep, IsLawfulStep};
 ghost use Rattle.log_core.specs.Run.{IsLawfulRun, EndsIn, TakesFront, stores as stores_of, helps, MayCommit, TakesCommit};
@@ -48,6 +49,29 @@ pub fn chains()
 {
     cubit_base::laws::words();
 }
+
+/// The nodes of a sound core.
+pub fn nodes()
+    // Each stands in one place of the chain at most, and is one of those that there are.
+    ensures place { (core : CoreValue) (node j k : ℕ) → IsSound core → IsNodeAt core.chain node j →
+        IsNodeAt core.chain node k → j ≡ k }
+    ensures inside { (core : CoreValue) (node k : ℕ) → IsSound core → IsNodeAt core.chain node k →
+        node < node_count core.terms }
+
+    // Node 0 is the head, and the last node alone has an empty link.
+    ensures head { (core : CoreValue) (k : ℕ) → IsSound core → IsNodeAt core.chain 0 k → k ≡ 0 }
+    ensures last { (core : CoreValue) (node k : ℕ) → IsSound core → IsNodeAt core.chain node k →
+        link core.words node ≡ 0 → k ≡ entry_count core.chain.history }
+
+    // Each node behind the head is one party's.
+    ensures own { (terms : CoreTerms) (p i : ℕ) → p < length terms.shares → i < share terms p →
+        first_node terms p + i < node_count terms }
+    ensures apart { (terms : CoreTerms) (p q i j : ℕ) → p < length terms.shares → q < length terms.shares →
+        i < share terms p → j < share terms q → first_node terms p + i ≡ first_node terms q + j → p ≡ q }
+
+    // The core before any step is sound.
+    ensures made { (terms : CoreTerms) → IsSound (made_core terms) }
+{}
 
 /// Takes a front alone: the tail, its link, and the counts of the last node. It takes no memory.
 pub fn front_alone(core: &mut Core, party: u8) -> [Seen; 3]
