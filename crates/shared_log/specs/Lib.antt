@@ -1,0 +1,9 @@
+pub mod Appends
+pub mod Calls
+pub mod CoreLaws
+pub mod Fronts
+pub mod Made
+pub mod Shown
+pub mod Steps
+pub mod Told
+pub mod Walks
