@@ -10,9 +10,9 @@
 //!   eight kinds, they show the core that the step leaves, whichever core was shown; and what a pass may do by what it
 //!   knows is lawful in each. `laws::seats`: the same of dates that are named, copied and met, and of new passes.
 //!   `laws::cores`: a new log shows the core before any step, and all cores that can be shown have one chain.
-//! - Each call says how its pass's trace of steps grew: `front` by its three loads, and it is then all that is seen
-//!   (`TakesFront`); `try_append` by at most as many steps as it counts, of which exactly one linked a node where the
-//!   delta was appended, and else none (`AppendTrace`); `following` by five loads; `meet` by a join and one load.
+//! - How a pass's trace of steps grows: by `front`'s three loads, and it is then all that is seen (`TakesFront`); by at
+//!   most as many steps as `try_append` counts, of which exactly one linked a node where the delta was appended, and
+//!   else none (`AppendTrace`); by five loads an entry of a walk, a note for a date, a join and one load to meet it.
 //! - `Pass` meets `CommitLog`, clause for clause.
 //!
 //! # Only tested

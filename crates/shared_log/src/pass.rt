@@ -3,7 +3,7 @@ ghost use Rattle.std.specs.Prelude.{◌≡◌, ◌+◌, ◌-◌, ◌*◌, ◌<�
 ghost use Rattle.log_core.specs.Terms.{share};
 ghost use Rattle.commit_log.specs.Log.{IsLog, Stands, IsWhole, IsPlace, IsLatest, MayFollow};
 ghost use Rattle.commit_log.specs.Handle.{Begins, SeesMore, with_look, Walks, walk_steps, Appends, append_steps, RisesWithin};
-ghost use Rattle.shared_log.specs.Shown.{new_view};
+ghost use Rattle.shared_log.specs.Shown.{new_view, noting};
 ghost use Rattle.shared_log.specs.Told.{shared_terms};
 ghost use Rattle.shared_log.specs.Calls.{pass_handle, TakesFront, MeetsDate as DateMet};
 ghost use Rattle.shared_log.specs.Appends.{append_ticks, AppendTrace};
@@ -91,6 +91,7 @@ impl<'a, T: LogTerms, W: WhichLog> Pass<'a, T, W> {
 
     /// A date that names all that was seen.
     pub fn date<N: Ledger>(&mut self, steps: &mut Steps<N>) -> Date<W>
+        ensures note { self.new.view ≡ noting self.old.view }
         ensures named { result ≡ self.old.view.seen }
         ensures same { pass_handle T.terms self.new ≡ pass_handle T.terms self.old }
         ensures steps { steps.new ≡ steps.old + 1 }

@@ -100,7 +100,8 @@ impl<'a, T: LogTerms, W: WhichLog> PassSeat<'a, T, W> {
 
     /// Exchanges an empty link for the pass's next node, in which it stored an entry with this delta.
     pub(super) fn swap_link(&mut self, node: u64, to: u64, delta: &Delta) -> u64
-        requires may { (place : ℕ) × (e : EntryValue) × MayPut T.terms self.old node to place e × (e.delta ≡ delta.now) }
+        requires may { (place : ℕ) × (e : EntryValue) × MayPut T.terms self.old node to place e
+            × (e.delta ≡ delta.now) }
         requires inside { node < node_count T.terms }
         ensures { (place : ℕ) (e : EntryValue) → MayPut T.terms self.old node to place e → e.delta ≡ delta.now →
             LinkSwapped T.terms self.old node to place delta.now result self.new }

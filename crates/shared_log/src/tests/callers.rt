@@ -38,8 +38,8 @@ pub(super) fn row_at<L: CommitLog, N: Ledger>(
     held
 }
 
-// Changes a row that is live at a front, or deletes it where there is no tuple; none where it is not live, or the caller
-// may append no more.
+// Changes a row that is live at a front, or deletes it where there is no tuple; none where it is not live, or the
+// caller may append no more.
 pub(super) fn change<L: CommitLog, N: Ledger>(
     log: &mut L,
     base: &Table,
